@@ -1,0 +1,8 @@
+pub mod Solver
+pub mod Laws
+pub mod Norm
+pub mod Best
+pub mod Cover
+pub mod Remainders
+pub mod Modulo2
+pub mod Units

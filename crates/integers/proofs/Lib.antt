@@ -1,0 +1,6 @@
+pub mod Laws
+pub mod Ring
+pub mod Order
+pub mod Absolute
+pub mod Floor
+pub mod Tests

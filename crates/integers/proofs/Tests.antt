@@ -1,0 +1,22 @@
+-- A test that antt computes at each number below a bound, and the rule drawn from it at each of them.
+-- One use: `every-at f 6 tt k h : T (f k)`, for `h : k < 6`, where `every f 6` computes to true.
+use mathlib.Core.Path.{_≡_, subst, sym}
+use mathlib.Core.Bool.{Bool, true, false, _&&_}
+use mathlib.Core.Logic.{_≢_}
+use Prim.Native.Nat.{ℕ, zero, suc, _≤_, _<_}
+use native.Mathlib.Omega.{arith}
+use native.Mathlib.Decide.{ℕ-discrete}
+use lib.Dec.{T}
+use mir.Facts.{and-yes}
+
+abbrev pub every : (ℕ → Bool) → ℕ → Bool
+every f zero = true
+every f (suc n) = f n && every f n
+
+pub every-at : (f : ℕ → Bool) (n : ℕ) → T (every f n) → (k : ℕ) → k < n → T (f k)
+every-at f zero t k h = absurd (omega arith)
+every-at f (suc n) t k h = go (ℕ-discrete k n) (every-at f n (and-yes (f n) (every f n) t .1) k)
+  where
+    go : Dec (k ≡ n) → (k < n → T (f k)) → T (f k)
+    go (yes e) r = subst (λ (m : ℕ). T (f m)) (sym e) (and-yes (f n) (every f n) t .0)
+    go (no e) r = r (omega arith)

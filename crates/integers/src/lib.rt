@@ -1,0 +1,1 @@
+// Laws of the integers. Lemmas only: see proofs/.

@@ -1,0 +1,31 @@
+-- What a call gives: a value, or the number of the first refusal that applies.
+use mathlib.Core.Bool.{Bool, true, false}
+use mathlib.Core.List.{List, [], _∷_}
+use Prim.Native.Nat.{ℕ}
+
+-- A refusal's number, and whether its condition applies.
+pub record Check : Type 0 where
+  pub number : ℕ
+  pub applies : Bool
+
+infix 30 _if_
+abbrev pub _if_ : ℕ → Bool → Check
+n if t = record { number = n; applies = t }
+
+pub data Outcome (A : Type 0) : Type 0 where
+  done : A → Outcome A
+  refused : ℕ → Outcome A
+
+abbrev pub unless : {A : Type 0} → Bool → ℕ → Outcome A → Outcome A
+unless true n o = refused n
+unless false n o = o
+
+-- "The first that applies, in this order, is given, and none is given otherwise."
+unfoldable pub outcome : {A : Type 0} → List Check → A → Outcome A
+outcome [] a = done a
+outcome (c ∷ cs) a = unless (c .applies) (c .number) (outcome cs a)
+
+-- "Every refusal returns its number alone and writes to no lent output": the number that a call returns, 0 if it refuses nothing, and what a lent output holds then that held `old`.
+unfoldable pub lent : {A : Type 0} → Outcome A → A → ℕ × A
+lent (done a) old = (0, a)
+lent (refused n) old = (n, old)

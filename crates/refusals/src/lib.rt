@@ -1,0 +1,60 @@
+// Document 01's refusals, each with its number. Which condition is tested where, and in what order, is in the crates of the calls.
+ghost use mathlib.Core.Path.{_≡_};
+ghost use Rattle.refusals.specs.Numbers.{numberOf};
+
+pub enum Refusal {
+    CoefficientCountOutOfRange,
+    ModulusPartOutOfRange,
+    ModulusPartsBothEven,
+    SOutOfRange,
+    TOutOfRange,
+    BoundNotBelowNorm,
+    WrongLength,
+    FNotInItsSet,
+    GNotInItsSet,
+    PhiNotInItsSet,
+    NotReducedModulo2,
+    NotReducedModuloQ,
+    NotInverseModulo2,
+    NotInverseModuloQ,
+    SpareBitSet,
+    HeadTooShort,
+    MarkNotEiz,
+    VersionNotOne,
+    KindNotWanted,
+    ParametersDiffer,
+    ModulusZero,
+    ValueOutOfRange,
+}
+
+impl Refusal {
+    // Document 01's number.
+    pub fn number(self) -> u32
+        ensures { λ r. ⌜ r ≡ numberOf self ⌝ }
+    {
+        match self {
+            Refusal::CoefficientCountOutOfRange => 1,
+            Refusal::ModulusPartOutOfRange => 2,
+            Refusal::ModulusPartsBothEven => 3,
+            Refusal::SOutOfRange => 4,
+            Refusal::TOutOfRange => 5,
+            Refusal::BoundNotBelowNorm => 6,
+            Refusal::WrongLength => 7,
+            Refusal::FNotInItsSet => 8,
+            Refusal::GNotInItsSet => 9,
+            Refusal::PhiNotInItsSet => 10,
+            Refusal::NotReducedModulo2 => 11,
+            Refusal::NotReducedModuloQ => 12,
+            Refusal::NotInverseModulo2 => 13,
+            Refusal::NotInverseModuloQ => 14,
+            Refusal::SpareBitSet => 15,
+            Refusal::HeadTooShort => 16,
+            Refusal::MarkNotEiz => 17,
+            Refusal::VersionNotOne => 18,
+            Refusal::KindNotWanted => 19,
+            Refusal::ParametersDiffer => 20,
+            Refusal::ModulusZero => 21,
+            Refusal::ValueOutOfRange => 22,
+        }
+    }
+}
