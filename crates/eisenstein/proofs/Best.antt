@@ -5,11 +5,12 @@ use mathlib.Core.Logic.{_⊎_, inl, inr, ⊎-elim}
 use Prim.Native.Nat.{ℕ, _+_, _≤_, _<_}
 use native.Mathlib.Omega.{arith}
 use native.Mathlib.Decide.{decLt, ℕ-discrete}
+use borrow.Author.Tests.{lt-ltb, le-ltb, eq-eqb, ne-eqb}
 use lib.Dec.{T, eqb, ltb, eqb→eq, eqb-refl}
 use lib.IntN.{ℤ, pos, negsuc}
 use lib.Signed.{_≤ℤ_, _<ℤ_, ltZ, ≤ℤ-refl, ltZ-yes, ltZ-no, clashℤ}
 use mir.Facts.{and-yes, and-no, or-yes, or-no, ltb-yes, ltb-no, eqb-yes, T-not}
-use Rattle.integers.proofs.Order.{orders, less-or-equal, ≤ℤ-antisym, ≤ℤ-trans, <ℤ-trans, eq-parts}
+use Rattle.integers.proofs.Order.{orders, less-or-equal, ≤ℤ-antisym, ≤ℤ-trans, <ℤ-trans, <ℤ-≢, <ℤ-asym, eq-parts}
 use Rattle.eisenstein.specs.Values.{ℤ[ω], value, norm, sameℤ}
 use Rattle.eisenstein.specs.Reduction.{AsGood, smaller-norm, larger-a, larger-b, better, best}
 
@@ -118,3 +119,46 @@ best-ind P {r} {s} p q = go (better s r)
     go : (c : Bool) → P (cond c s r)
     go true = q
     go false = p
+
+-- ---- `better`, from the comparisons of norms and parts
+
+pub better-norm : (r s : ℤ[ω]) → norm r < norm s → better r s ≡ true
+unfolding better larger
+better-norm r s h = ap (λ (t : Bool). t || (eqb (norm r) (norm s) && larger r s)) (lt-ltb (norm r) (norm s) h)
+
+pub worse-norm : (r s : ℤ[ω]) → norm s < norm r → better r s ≡ false
+unfolding better larger
+worse-norm r s h =
+    ap₂ (λ (t u : Bool). t || (u && larger r s)) (le-ltb (norm r) (norm s) (omega arith)) (ne-eqb (norm r) (norm s) (λ e. omega arith))
+
+tie-norm : (r s : ℤ[ω]) → norm r ≡ norm s → better r s ≡ larger r s
+unfolding better larger
+tie-norm r s h =
+    ap₂ (λ (t u : Bool). t || (u && larger r s)) (le-ltb (norm r) (norm s) (omega arith)) (eq-eqb (norm r) (norm s) h)
+
+is-true : (t : Bool) → T t → t ≡ true
+is-true true h = refl
+is-true false h = absurd h
+
+is-false : (t : Bool) → (T t → ⊥) → t ≡ false
+is-false true h = absurd (h tt)
+is-false false h = refl
+
+pub better-a : (r s : ℤ[ω]) → norm r ≡ norm s → s .a <ℤ r .a → better r s ≡ true
+unfolding larger
+better-a r s e h =
+    tie-norm r s e ∙ ap (λ (t : Bool). t || (sameℤ (s .a) (r .a) && ltZ (s .b) (r .b))) (is-true (ltZ (s .a) (r .a)) (h .lt))
+
+pub worse-a : (r s : ℤ[ω]) → norm r ≡ norm s → r .a <ℤ s .a → better r s ≡ false
+unfolding larger
+worse-a r s e h =
+    tie-norm r s e
+    ∙ ap₂ (λ (t u : Bool). t || (u && ltZ (s .b) (r .b))) (is-false (ltZ (s .a) (r .a)) (λ t. <ℤ-asym h (ltZ-yes t)))
+      (is-false (sameℤ (s .a) (r .a)) (λ t. <ℤ-≢ h (sym (sameℤ-yes (s .a) (r .a) t))))
+
+pub better-b : (r s : ℤ[ω]) → norm r ≡ norm s → s .a ≡ r .a → better r s ≡ ltZ (s .b) (r .b)
+unfolding larger
+better-b r s e f =
+    tie-norm r s e
+    ∙ ap₂ (λ (t u : Bool). t || (u && ltZ (s .b) (r .b))) (is-false (ltZ (s .a) (r .a)) (λ t. <ℤ-≢ (ltZ-yes t) f))
+      (is-true (sameℤ (s .a) (r .a)) (subst (λ (z : ℤ). T (sameℤ (s .a) z)) f (sameℤ-refl (s .a))))

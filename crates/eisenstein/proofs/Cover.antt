@@ -10,7 +10,7 @@ use Rattle.integers.proofs.Ring.{ring, con, _⊕_, _⊝_, _⊗_, ⊖_, _⊜_}
 use Rattle.integers.proofs.Absolute.{square-le}
 use Rattle.integers.proofs.Order.{natAbs-parts, parts--, above-pos, below-pos, above, below}
 use Rattle.eisenstein.specs.Values.{ℤ[ω], value, norm}
-use Rattle.eisenstein.proofs.Norm.{norm-is, norm-swap, part-a, part-b}
+use Rattle.eisenstein.proofs.Norms.{norm-is, norm-swap, part-a, part-b}
 
 -- the four corners of the unit square
 pub data Corner : ℕ → ℕ → Type 0 where

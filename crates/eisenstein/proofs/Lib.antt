@@ -1,6 +1,6 @@
 pub mod Solver
 pub mod Laws
-pub mod Norm
+pub mod Norms
 pub mod Best
 pub mod Cover
 pub mod Remainders

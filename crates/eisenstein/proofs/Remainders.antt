@@ -14,7 +14,7 @@ use Rattle.eisenstein.specs.Reduction.{AsGood, smaller-norm, larger-a, l
 use Rattle.eisenstein.specs.Promises.{ModQ-is-remainder, Remainder-unique, Remainder-norm, Small-is-remainder}
 use Rattle.eisenstein.proofs.Solver.{ringω, parts, _≐_, _⊞_, _⊟_, _⊠_}
 use Rattle.eisenstein.proofs.Laws.{less-multiple, in-class-is, congruent-refl, *ω-zero, +ω-zero}
-use Rattle.eisenstein.proofs.Norm.{form, norm-form, norm-*, norm-conj, norm-zero, parallelogram}
+use Rattle.eisenstein.proofs.Norms.{form, norm-form, norm-*, norm-conj, norm-zero, parallelogram}
 use Rattle.eisenstein.proofs.Best.{as-good-refl, as-good-trans, as-good-antisym, best-good, best-ind}
 use Rattle.eisenstein.proofs.Cover.{Corner, c00, c10, c01, c11, offset, Near, some-near, IsCorner, only-corners}
 

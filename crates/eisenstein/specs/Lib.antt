@@ -1,3 +1,4 @@
 pub mod Values
 pub mod Reduction
+pub mod Calls
 pub mod Promises

@@ -1,1 +1,101 @@
-// Z[ω].
+// The ring Z[ω]: the six units, and one value reduced modulo q or modulo 2.
+// Arrays of values and parameter sets are not this crate's business.
+ghost use mathlib.Core.Path.{_≡_};
+ghost use mathlib.Core.Logic.{_≢_};
+ghost use Prim.Native.Nat.{_≤_, _<_, _%_, _^_};
+ghost use lib.Dec.{ltb};
+ghost use lib.IntN.{pos, natAbs};
+ghost use lib.Signed.{_<ℤ_, _≤ℤ_};
+ghost use Rattle.integers.proofs.Floor.{floorRest};
+ghost use Rattle.eisenstein.specs.Values.{value, 𝟘, norm, unit, same};
+ghost use Rattle.eisenstein.specs.Reduction.{better, best, modQ, mod2, bit};
+ghost use Rattle.eisenstein.specs.Calls.{beyond, reduceQ, reduce2, answered};
+
+use refusals::Refusal;
+
+// A value a + bω of Z[ω], by its parts.
+pub struct Pair {
+    pub a: i32,
+    pub b: i32,
+}
+
+// Document 01's units, in its order.
+const UNITS: [Pair; 6] = [
+    Pair { a: 1, b: 0 },
+    Pair { a: 1, b: 1 },
+    Pair { a: 0, b: 1 },
+    Pair { a: -1, b: 0 },
+    Pair { a: -1, b: -1 },
+    Pair { a: 0, b: -1 },
+];
+
+// The unit of a number, taken modulo 6.
+pub fn unit(number: usize) -> Pair
+    ensures { λ r. ⌜ value (r .a) (r .b) ≡ unit (number % 6) ⌝ }
+{
+    let k = number % 6;
+    UNITS[k]
+}
+
+pub enum Reduced {
+    Remainder(Pair),
+    Refused(Refusal),
+}
+
+// A value whose parts need more room.
+struct Wide {
+    a: i64,
+    b: i64,
+}
+
+fn norm(a: i64, b: i64) -> i64
+    requires { ⌜ (natAbs a ≤ 2 ^ 30) × (natAbs b ≤ 2 ^ 30) ⌝ }
+    ensures { λ r. ⌜ r ≡ pos (norm (value a b)) ⌝ }
+{
+    a * a - a * b + b * b
+}
+
+// What division by n, rounded down, leaves of x.
+fn floor_rest(x: i64, n: i64) -> i64
+    requires { ⌜ (natAbs x ≤ 2 ^ 60) × (natAbs n ≤ 2 ^ 60) × (pos 0 <ℤ n) ⌝ }
+    ensures { λ r. ⌜ r ≡ pos (floorRest x (natAbs n)) ⌝ }
+{
+    if x < 0 {
+        n - 1 - (-1 - x) % n
+    } else {
+        x % n
+    }
+}
+
+// Whether x is below −limit or above it.
+fn outside(x: i64, limit: i64) -> bool
+    requires { ⌜ (pos 0 <ℤ limit) × (natAbs limit ≤ 2 ^ 60) ⌝ }
+    ensures { λ r. ⌜ r ≡ ltb (natAbs limit) (natAbs x) ⌝ }
+{
+    if x < 0 - limit {
+        return true;
+    }
+    limit < x
+}
+
+// Whether (ra, rb) is better than (sa, sb), by the rule of remainders.
+fn better(ra: i64, rb: i64, sa: i64, sb: i64) -> bool
+    requires { ⌜ (natAbs ra ≤ 2 ^ 30) × (natAbs rb ≤ 2 ^ 30) × (natAbs sa ≤ 2 ^ 30) × (natAbs sb ≤ 2 ^ 30) ⌝ }
+    ensures { λ t. ⌜ t ≡ better (value ra rb) (value sa sb) ⌝ }
+{
+    let m = norm(ra, rb);
+    let n = norm(sa, sb);
+    if m < n {
+        return true;
+    }
+    if n < m {
+        return false;
+    }
+    if sa < ra {
+        return true;
+    }
+    if ra < sa {
+        return false;
+    }
+    sb < rb
+}

@@ -5,8 +5,11 @@ use Prim.Native.Nat.{ℕ, zero, suc, _+_, _*_, _≤_, _<_}
 use native.Mathlib.Omega.{arith}
 use native.Mathlib.Decide.{decLe}
 use native.Mathlib.Nat.{mul-le-mul, mul-lt-mul-of-pos-left, mul-lt-mul-of-pos-right, mul-pos, lt-of-le-of-lt, mul-le-mul-right}
+use borrow.Author.Tests.{le-ltb}
+use lib.Dec.{ltb}
+use lib.Signed.{ltZ, _<ℤ_, _≤ℤ_}
 use lib.IntN.{ℤ, pos, negsuc, negℤ, natAbs, _+ℤ_, _-ℤ_, _*ℤ_}
-use Rattle.integers.proofs.Order.{above, below, parts-+, natAbs-parts}
+use Rattle.integers.proofs.Order.{above, below, orders, parts-+, parts--, above-pos, below-pos, natAbs-parts}
 
 pub natAbs-neg : (z : ℤ) → natAbs (negℤ z) ≡ natAbs z
 natAbs-neg (pos zero) = refl
@@ -42,6 +45,19 @@ natAbs-zero (negsuc n) h = absurd (bad n h)
   where
     bad : (n : ℕ) → suc n ≡ 0 → ⊥
     bad n h = omega arith
+
+-- ---- a number outside of −l to l
+
+pub outside-low : (x l : ℤ) → pos 0 <ℤ l → x <ℤ (pos 0 -ℤ l) → natAbs l < natAbs x
+outside-low x (negsuc m) p h = absurd (p .lt)
+outside-low x (pos m) p h = omega (arith, orders, parts-- (pos 0) (pos m), above-pos 0, below-pos 0, above-pos m, below-pos m, natAbs-parts x)
+
+pub outside-high : (x l : ℤ) → pos 0 <ℤ l → (pos 0 -ℤ l) ≤ℤ x → ltZ l x ≡ ltb (natAbs l) (natAbs x)
+unfolding above below
+outside-high x (negsuc m) p h = absurd (p .lt)
+outside-high (pos a) (pos m) p h = refl
+outside-high (negsuc a) (pos m) p h =
+    sym (le-ltb m (suc a) (omega (arith, orders, parts-- (pos 0) (pos m), above-pos 0, below-pos 0, above-pos m, below-pos m)))
 
 -- ---- squares of natural numbers
 

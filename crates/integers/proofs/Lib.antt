@@ -4,3 +4,4 @@ pub mod Order
 pub mod Absolute
 pub mod Floor
 pub mod Tests
+pub mod Machine

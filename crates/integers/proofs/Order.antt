@@ -150,3 +150,9 @@ less-or-equal {a} {b} h = go (decLt (above a + below b) (above b + below a))
     go : Dec (above a + below b < above b + below a) → (a <ℤ b) ⊎ (a ≡ b)
     go (yes l) = inl (parts-lt l)
     go (no l) = inr (parts-eq a b (omega (arith, orders)))
+
+-- a difference of natural numbers that does not go below 0
+pub pos-minus : (m n : ℕ) → n ≤ m → pos m -ℤ pos n ≡ pos (m - n)
+pos-minus m n h =
+    parts-eq (pos m -ℤ pos n) (pos (m - n))
+    (omega (arith, parts-- (pos m) (pos n), above-pos m, below-pos m, above-pos n, below-pos n, above-pos (m - n), below-pos (m - n)))

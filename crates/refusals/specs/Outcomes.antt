@@ -8,7 +8,7 @@ pub record Check : Type 0 where
   pub number : ℕ
   pub applies : Bool
 
-infix 30 _if_
+infix 80 _if_
 abbrev pub _if_ : ℕ → Bool → Check
 n if t = record { number = n; applies = t }
 

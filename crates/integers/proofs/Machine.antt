@@ -1,0 +1,224 @@
+-- Signed machine arithmetic. A signed number is stored as its bits and read back, so a need or a result holds layers of `toZ w (ofZ w ..)`. An expression of the ring solver says what the code computes: `stored` has the layers, `eval` has none. Where a computed bound of every part of the expression is within the width, each operation's need holds (`fits`), what is stored is what is meant (`exact`), and it is within its bound (`size`).
+-- One use: with `ρ = given a 1024 h ∷ given b 1024 k ∷ []`, `fits w64 ρ (var 0 ⊗ var 1) tt` answers the need of `a * b`, and `exact w64 ρ (var 0 ⊗ var 1) tt` says that its result is `a *ℤ b`.
+use mathlib.Core.Path.{_≡_, refl, sym, _∙_, ap, ap₂, subst}
+use mathlib.Core.Bool.{Bool, true, false, not, _&&_}
+use mathlib.Core.List.{List, [], _∷_, map}
+use Prim.Native.Nat.{ℕ, zero, suc, _+_, _*_, _/_, _%_, _^_, _≤_, _<_}
+use native.Mathlib.Omega.{arith}
+use native.Mathlib.Nat.{le-trans, le-refl, mul-le-mul, lt-of-le-of-lt, div-le-self, mod-le, mul-div-cancel-left, zero-div}
+use lib.Dec.{T, ltb, ltb→lt, leb}
+use lib.IntN.{ℤ, pos, negsuc, negℤ, natAbs, _+ℤ_, _-ℤ_, _*ℤ_}
+use lib.Signed.{mag, ltZ, quotZ, remZ, _<ℤ_, _≤ℤ_, ltZ-yes, ltZ-no}
+use mir.Syntax.{Width, w32, w64}
+use mir.Val.{SFits, toZ, ofZ, hbits}
+use mir.Facts.{and-yes, toZ-ofZ}
+use mir.ValLaws.{sfits-le}
+use Rattle.integers.proofs.Ring.{Expr, var, con, _⊕_, _⊝_, _⊗_, ⊖_, at, eval}
+use Rattle.integers.proofs.Absolute.{natAbs-+, natAbs--, natAbs-*, natAbs-neg}
+
+-- a number that an expression starts from: as the code has it, as it is meant, and a bound
+pub record Leaf : Type 0 where
+  pub code : ℤ
+  pub meant : ℤ
+  pub bound : ℕ
+  pub is : code ≡ meant
+  pub small : natAbs meant ≤ bound
+
+-- a number that is stored as it is meant
+abbrev pub given : (z : ℤ) (b : ℕ) → natAbs z ≤ b → Leaf
+given z b h = record { code = z; meant = z; bound = b; is = refl; small = h }
+
+-- a number of width w that is cast to a wider type
+abbrev pub widened : (w : Width) (z : ℤ) (b : ℕ) → SFits w z → natAbs z ≤ b → Leaf
+widened w z b f h = record { code = toZ w (ofZ w z); meant = z; bound = b; is = toZ-ofZ f; small = h }
+
+abbrev pub leaf : List Leaf → ℕ → Leaf
+leaf [] i = given (pos 0) 0 (le-refl 0)
+leaf (l ∷ ρ) zero = l
+leaf (l ∷ ρ) (suc i) = leaf ρ i
+
+abbrev pub meanings : List Leaf → List ℤ
+meanings [] = []
+meanings (l ∷ ρ) = l .meant ∷ meanings ρ
+
+-- a literal is read as it is, anything else from its bits
+abbrev pub reading : Width → Expr → ℤ → ℤ
+reading w (var i) z = toZ w (ofZ w z)
+reading w (con c) z = z
+reading w (a ⊕ b) z = toZ w (ofZ w z)
+reading w (a ⊝ b) z = toZ w (ofZ w z)
+reading w (a ⊗ b) z = toZ w (ofZ w z)
+reading w (⊖ a) z = toZ w (ofZ w z)
+
+abbrev pub stored : Width → List Leaf → Expr → ℤ
+stored w ρ (var i) = leaf ρ i .code
+stored w ρ (con c) = c
+stored w ρ (a ⊕ b) = reading w a (stored w ρ a) +ℤ reading w b (stored w ρ b)
+stored w ρ (a ⊝ b) = reading w a (stored w ρ a) -ℤ reading w b (stored w ρ b)
+stored w ρ (a ⊗ b) = reading w a (stored w ρ a) *ℤ reading w b (stored w ρ b)
+stored w ρ (⊖ a) = negℤ (reading w a (stored w ρ a))
+
+abbrev pub limit : List Leaf → Expr → ℕ
+limit ρ (var i) = leaf ρ i .bound
+limit ρ (con c) = natAbs c
+limit ρ (a ⊕ b) = limit ρ a + limit ρ b
+limit ρ (a ⊝ b) = limit ρ a + limit ρ b
+limit ρ (a ⊗ b) = limit ρ a * limit ρ b
+limit ρ (⊖ a) = limit ρ a
+
+abbrev pub safe : Width → List Leaf → Expr → Bool
+safe w ρ (var i) = ltb (limit ρ (var i)) (2 ^ hbits w)
+safe w ρ (con c) = ltb (natAbs c) (2 ^ hbits w)
+safe w ρ (a ⊕ b) = ltb (limit ρ (a ⊕ b)) (2 ^ hbits w) && (safe w ρ a && safe w ρ b)
+safe w ρ (a ⊝ b) = ltb (limit ρ (a ⊝ b)) (2 ^ hbits w) && (safe w ρ a && safe w ρ b)
+safe w ρ (a ⊗ b) = ltb (limit ρ (a ⊗ b)) (2 ^ hbits w) && (safe w ρ a && safe w ρ b)
+safe w ρ (⊖ a) = ltb (limit ρ (⊖ a)) (2 ^ hbits w) && safe w ρ a
+
+-- ---- what is within its limit fits
+
+mag-natAbs : (z : ℤ) → mag z ≤ natAbs z
+mag-natAbs (pos n) = le-refl n
+mag-natAbs (negsuc n) = omega arith
+
+pub sfits-within : {w : Width} {b : ℕ} (z : ℤ) → natAbs z ≤ b → b < 2 ^ hbits w → SFits w z
+sfits-within z h l = record { sfits = lt-of-le-of-lt (le-trans (mag-natAbs z) h) l }
+
+-- what is stored is what is meant, and within its limit
+record Sound (w : Width) (ρ : List Leaf) (e : Expr) : Type 0 where
+  is : stored w ρ e ≡ eval (meanings ρ) e
+  small : natAbs (eval (meanings ρ) e) ≤ limit ρ e
+  below : limit ρ e < 2 ^ hbits w
+
+sound-fits : {w : Width} {ρ : List Leaf} {e : Expr} → Sound w ρ e → SFits w (stored w ρ e)
+sound-fits {w} {ρ} {e} s =
+    subst (SFits w) (sym (s .is)) (sfits-within (eval (meanings ρ) e) (s .small) (s .below))
+
+sound-read : {w : Width} {ρ : List Leaf} (e : Expr) → Sound w ρ e → reading w e (stored w ρ e) ≡ eval (meanings ρ) e
+sound-read (var i) s = toZ-ofZ (sound-fits s) ∙ s .is
+sound-read (con c) s = s .is
+sound-read (a ⊕ b) s = toZ-ofZ (sound-fits s) ∙ s .is
+sound-read (a ⊝ b) s = toZ-ofZ (sound-fits s) ∙ s .is
+sound-read (a ⊗ b) s = toZ-ofZ (sound-fits s) ∙ s .is
+sound-read (⊖ a) s = toZ-ofZ (sound-fits s) ∙ s .is
+
+meant-at : (ρ : List Leaf) (i : ℕ) → leaf ρ i .meant ≡ at (meanings ρ) i
+meant-at [] i = refl
+meant-at (l ∷ ρ) zero = refl
+meant-at (l ∷ ρ) (suc i) = meant-at ρ i
+
+and₃ : (p q r : Bool) → T (p && (q && r)) → T p × T q × T r
+and₃ true true true t = (tt, tt, tt)
+and₃ true true false t = absurd t
+and₃ true false r t = absurd t
+and₃ false q r t = absurd t
+
+sound : (w : Width) (ρ : List Leaf) (e : Expr) → T (safe w ρ e) → Sound w ρ e
+sound w ρ (var i) t = record
+  { is = leaf ρ i .is ∙ meant-at ρ i
+  ; small = subst (λ (z : ℤ). natAbs z ≤ leaf ρ i .bound) (meant-at ρ i) (leaf ρ i .small)
+  ; below = ltb→lt _ _ t
+  }
+sound w ρ (con c) t = record { is = refl; small = le-refl (natAbs c); below = ltb→lt _ _ t }
+sound w ρ (a ⊕ b) t =
+    let (l, p, q) = and₃ (ltb (limit ρ (a ⊕ b)) (2 ^ hbits w)) (safe w ρ a) (safe w ρ b) t in
+    let x = sound w ρ a p in
+    let y = sound w ρ b q in
+    record
+      { is = ap₂ _+ℤ_ (sound-read a x) (sound-read b y)
+      ; small = le-trans (natAbs-+ (eval (meanings ρ) a) (eval (meanings ρ) b)) (omega (arith, x .small, y .small))
+      ; below = ltb→lt _ _ l
+      }
+sound w ρ (a ⊝ b) t =
+    let (l, p, q) = and₃ (ltb (limit ρ (a ⊝ b)) (2 ^ hbits w)) (safe w ρ a) (safe w ρ b) t in
+    let x = sound w ρ a p in
+    let y = sound w ρ b q in
+    record
+      { is = ap₂ _-ℤ_ (sound-read a x) (sound-read b y)
+      ; small = le-trans (natAbs-- (eval (meanings ρ) a) (eval (meanings ρ) b)) (omega (arith, x .small, y .small))
+      ; below = ltb→lt _ _ l
+      }
+sound w ρ (a ⊗ b) t =
+    let (l, p, q) = and₃ (ltb (limit ρ (a ⊗ b)) (2 ^ hbits w)) (safe w ρ a) (safe w ρ b) t in
+    let x = sound w ρ a p in
+    let y = sound w ρ b q in
+    record
+      { is = ap₂ _*ℤ_ (sound-read a x) (sound-read b y)
+      ; small = subst (λ (n : ℕ). n ≤ limit ρ a * limit ρ b) (sym (natAbs-* (eval (meanings ρ) a) (eval (meanings ρ) b))) (mul-le-mul (x .small) (y .small))
+      ; below = ltb→lt _ _ l
+      }
+sound w ρ (⊖ a) t =
+    let (l, p) = and-yes (ltb (limit ρ (⊖ a)) (2 ^ hbits w)) (safe w ρ a) t in
+    let x = sound w ρ a p in
+    record
+      { is = ap negℤ (sound-read a x)
+      ; small = subst (λ (n : ℕ). n ≤ limit ρ a) (sym (natAbs-neg (eval (meanings ρ) a))) (x .small)
+      ; below = ltb→lt _ _ l
+      }
+
+pub fits : (w : Width) (ρ : List Leaf) (e : Expr) → T (safe w ρ e) → SFits w (stored w ρ e)
+fits w ρ e t = sound-fits (sound w ρ e t)
+
+pub exact : (w : Width) (ρ : List Leaf) (e : Expr) → T (safe w ρ e) → reading w e (stored w ρ e) ≡ eval (meanings ρ) e
+exact w ρ e t = sound-read e (sound w ρ e t)
+
+-- the number that is meant fits too
+pub fits-meant : (w : Width) (ρ : List Leaf) (e : Expr) → T (safe w ρ e) → SFits w (eval (meanings ρ) e)
+fits-meant w ρ e t = let s = sound w ρ e t in sfits-within (eval (meanings ρ) e) (s .small) (s .below)
+
+pub size : (w : Width) (ρ : List Leaf) (e : Expr) → T (safe w ρ e) → natAbs (eval (meanings ρ) e) ≤ limit ρ e
+size w ρ e t = sound w ρ e t .small
+
+-- ---- tests of order, as a branch leaves them: of a′ and b′ as the code has them, which are a and b
+
+pub lt-read : {a b a′ b′ : ℤ} → a′ ≡ a → b′ ≡ b → ltZ a′ b′ ≡ true → a <ℤ b
+lt-read {a} {b} e f h = ltZ-yes (subst T (sym (sym (ap₂ ltZ e f) ∙ h)) tt)
+
+pub le-read : {a b a′ b′ : ℤ} → a′ ≡ a → b′ ≡ b → ltZ a′ b′ ≡ false → b ≤ℤ a
+le-read {a} {b} e f h = ltZ-no (subst (λ (t : Bool). T (not t)) (sym (sym (ap₂ ltZ e f) ∙ h)) tt)
+
+-- ---- division by a positive number
+
+-- a positive number
+pub positive : (n : ℤ) → pos 0 <ℤ n → (m : ℕ) × (n ≡ pos (suc m))
+positive (pos zero) h = absurd (h .lt)
+positive (pos (suc m)) h = (m, refl)
+positive (negsuc m) h = absurd (h .lt)
+
+mag-neg : (k a : ℕ) → k ≤ suc a → mag (negℤ (pos k)) ≤ a
+mag-neg zero a h = omega arith
+mag-neg (suc k) a h = omega arith
+
+mag-quot : (x : ℤ) (m : ℕ) → mag (quotZ x (pos m)) ≤ mag x
+mag-quot (pos a) m = div-le-self a m
+mag-quot (negsuc a) m = mag-neg (suc a / m) a (div-le-self (suc a) m)
+
+-- what a division asks: the divisor's bits are not 0, and the quotient fits
+pub division : (w : Width) {x n x′ n′ : ℤ} → x′ ≡ x → n′ ≡ n → pos 0 <ℤ n → SFits w x → (0 < ofZ w n) × SFits w (quotZ x′ n′)
+division w {x} {n} {x′} {n′} e f h s =
+    let (m, g) = positive n h in
+    (subst (λ (z : ℤ). 0 < ofZ w z) (sym g) (omega arith),
+    subst (SFits w) (sym (ap₂ quotZ e (f ∙ g))) (sfits-le (mag-quot x (suc m)) s))
+
+-- a multiple of a positive number, divided by it
+pub quotient : (n : ℕ) (r : ℤ) → 0 < n → quotZ (pos n *ℤ r) (pos n) ≡ r
+quotient n (pos k) h = ap pos (mul-div-cancel-left k h)
+quotient n (negsuc k) h = by-neg (n * suc k) ∙ ap (λ (j : ℕ). negℤ (pos j)) (mul-div-cancel-left (suc k) h)
+  where
+    by-neg : (j : ℕ) → quotZ (negℤ (pos j)) (pos n) ≡ negℤ (pos (j / n))
+    by-neg zero = ap pos (zero-div n) ∙ sym (ap (λ (i : ℕ). negℤ (pos i)) (zero-div n))
+    by-neg (suc j) = refl
+
+pub natAbs-rem : (x n : ℤ) → natAbs (remZ x n) ≤ natAbs x
+natAbs-rem (pos a) n = mod-le a (natAbs n)
+natAbs-rem (negsuc a) n =
+    subst (λ (k : ℕ). k ≤ suc a) (sym (natAbs-neg (pos (suc a % natAbs n)))) (mod-le (suc a) (natAbs n))
+
+-- the remainder that a division leaves, as a number that an expression starts from
+abbrev pub rest : {x n x′ n′ : ℤ} (b : ℕ) → x′ ≡ x → n′ ≡ n → natAbs x ≤ b → Leaf
+rest {x} {n} {x′} {n′} b e f h = record
+  { code = remZ x′ n′
+  ; meant = remZ x n
+  ; bound = b
+  ; is = ap₂ remZ e f
+  ; small = le-trans (natAbs-rem x n) h
+  }
