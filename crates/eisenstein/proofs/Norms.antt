@@ -2,10 +2,10 @@
 use mathlib.Core.Path.{_≡_, refl, sym, _∙_, ap, ap₂, subst}
 use Prim.Native.Nat.{ℕ, zero, suc, _+_, _*_, _≤_, _<_}
 use native.Mathlib.Omega.{arith}
-use native.Mathlib.Nat.{mul-comm}
+use native.Mathlib.Nat.{mul-le-mul}
 use lib.IntN.{ℤ, pos, negsuc, negℤ, natAbs, _+ℤ_, _-ℤ_, _*ℤ_}
 use Rattle.integers.proofs.Ring.{ring, con, _⊕_, _⊝_, _⊗_, ⊖_, _⊜_}
-use Rattle.integers.proofs.Absolute.{square, square-zero, natAbs-zero}
+use Rattle.integers.proofs.Absolute.{square, square-zero, natAbs-zero, natAbs-+, natAbs--, natAbs-*}
 use Rattle.eisenstein.specs.Values.{ℤ[ω], value, 𝟘, _+ω_, _-ω_, _*ω_, norm}
 use Rattle.eisenstein.specs.Reduction.{conj}
 
@@ -89,3 +89,9 @@ parallelogram x y =
     (sym (ap₂ _+ℤ_ (norm-form (x -ω y)) (norm-form (x +ω y)))
     ∙ form-parallelogram (x .a) (x .b) (y .a) (y .b)
     ∙ ap₂ (λ (p q : ℤ). (pos 2 *ℤ p) +ℤ (pos 2 *ℤ q)) (norm-form x) (norm-form y))
+
+-- a bound on the norm from one on the parts
+pub norm-bound : (x : ℤ[ω]) (m : ℕ) → natAbs (x .a) ≤ m → natAbs (x .b) ≤ m → norm x ≤ m * m + m * m + m * m
+unfolding norm
+norm-bound x m p q =
+    omega (arith, natAbs-+ ((x .a *ℤ x .a) -ℤ (x .a *ℤ x .b)) (x .b *ℤ x .b), natAbs-- (x .a *ℤ x .a) (x .a *ℤ x .b), natAbs-* (x .a) (x .a), natAbs-* (x .a) (x .b), natAbs-* (x .b) (x .b), mul-le-mul p p, mul-le-mul p q, mul-le-mul q q)

@@ -15,7 +15,7 @@ use Rattle.eisenstein.specs.Promises.{ModQ-is-remainder, Remainder-uniqu
 use Rattle.eisenstein.proofs.Solver.{ringω, parts, _≐_, _⊞_, _⊟_, _⊠_}
 use Rattle.eisenstein.proofs.Laws.{less-multiple, in-class-is, congruent-refl, *ω-zero, +ω-zero}
 use Rattle.eisenstein.proofs.Norms.{form, norm-form, norm-*, norm-conj, norm-zero, parallelogram}
-use Rattle.eisenstein.proofs.Best.{as-good-refl, as-good-trans, as-good-antisym, best-good, best-ind}
+use Rattle.eisenstein.proofs.TieRule.{as-good-refl, as-good-trans, as-good-antisym, best-good, best-ind}
 use Rattle.eisenstein.proofs.Cover.{Corner, c00, c10, c01, c11, offset, Near, some-near, IsCorner, only-corners}
 
 pub norm-pos : (q : ℤ[ω]) → q ≢ 𝟘 → 0 < norm q

@@ -6,7 +6,7 @@ use mir.Facts.{and-yes}
 use Rattle.integers.proofs.Tests.{every, every-at}
 use Rattle.eisenstein.specs.Values.{ℤ[ω], value, unit, _*ω_, same, sameℤ}
 use Rattle.eisenstein.specs.Promises.{Units-multiply}
-use Rattle.eisenstein.proofs.Best.{sameℤ-yes}
+use Rattle.eisenstein.proofs.TieRule.{sameℤ-yes}
 
 pub same-yes : (x y : ℤ[ω]) → T (same x y) → x ≡ y
 unfolding same

@@ -4,11 +4,11 @@ ghost use mathlib.Core.Path.{_≡_};
 ghost use mathlib.Core.Logic.{_≢_};
 ghost use Prim.Native.Nat.{_≤_, _<_, _%_, _^_};
 ghost use lib.Dec.{ltb};
-ghost use lib.IntN.{pos, natAbs};
+ghost use lib.IntN.{pos, natAbs, _+ℤ_, _-ℤ_};
 ghost use lib.Signed.{_<ℤ_, _≤ℤ_};
 ghost use Rattle.integers.proofs.Floor.{floorRest};
 ghost use Rattle.eisenstein.specs.Values.{value, 𝟘, norm, unit, same};
-ghost use Rattle.eisenstein.specs.Reduction.{better, best, modQ, mod2, bit};
+ghost use Rattle.eisenstein.specs.Reduction.{better, best, corner, modQ, mod2, bit};
 ghost use Rattle.eisenstein.specs.Calls.{beyond, reduceQ, reduce2, answered};
 
 use refusals::Refusal;
@@ -98,4 +98,63 @@ fn better(ra: i64, rb: i64, sa: i64, sb: i64) -> bool
         return false;
     }
     sb < rb
+}
+
+// The better of two values.
+fn best(r: Wide, s: Wide) -> Wide
+    requires { ⌜ (natAbs (r .a) ≤ 2 ^ 30) × (natAbs (r .b) ≤ 2 ^ 30) × (natAbs (s .a) ≤ 2 ^ 30) × (natAbs (s .b) ≤ 2 ^ 30) ⌝ }
+    ensures { λ t. ⌜ value (t .a) (t .b) ≡ best (value (r .a) (r .b)) (value (s .a) (s .b)) ⌝ }
+{
+    let ra = r.a;
+    let rb = r.b;
+    let sa = s.a;
+    let sb = s.b;
+    if better(sa, sb, ra, rb) {
+        return Wide { a: sa, b: sb };
+    }
+    Wide { a: ra, b: rb }
+}
+
+// n·corner is (x, y)·q for what (a, b)·conj(q) leaves over n at each part, so each division is exact.
+fn first_corner(a: i64, b: i64, c: i64, d: i64, n: i64) -> Wide
+    requires { ⌜ (natAbs a ≤ 2 ^ 40) × (natAbs b ≤ 2 ^ 40) × (natAbs c ≤ 4095) × (natAbs d ≤ 4095) × (value c d ≢ 𝟘) × (n ≡ pos (norm (value c d))) ⌝ }
+    ensures { λ r. ⌜ (value (r .a) (r .b) ≡ corner (value c d) (value a b) 0 0) × (natAbs (r .a) ≤ 2 ^ 14) × (natAbs (r .b) ≤ 2 ^ 14) ⌝ }
+{
+    let x = floor_rest(a * (c - d) + b * d, n);
+    let y = floor_rest(b * c - a * d, n);
+    Wide {
+        a: (x * c - y * d) / n,
+        b: (x * d + y * c - y * d) / n,
+    }
+}
+
+// The best of the four corners, of which (u, v) is the first: the others are less q, qω and q(1 + ω).
+fn best_corner(u: i64, v: i64, c: i64, d: i64) -> Wide
+    requires { ⌜ (natAbs u ≤ 2 ^ 14) × (natAbs v ≤ 2 ^ 14) × (natAbs c ≤ 4095) × (natAbs d ≤ 4095) ⌝ }
+    ensures { λ r. ⌜ value (r .a) (r .b) ≡ best (best (value u v) (value (u -ℤ c) (v -ℤ d))) (best (value (u +ℤ d) ((v -ℤ c) +ℤ d)) (value ((u -ℤ c) +ℤ d) (v -ℤ c))) ⌝ }
+{
+    let lower = best(Wide { a: u, b: v }, Wide { a: u - c, b: v - d });
+    let upper = best(
+        Wide {
+            a: u + d,
+            b: v - c + d,
+        },
+        Wide {
+            a: u - c + d,
+            b: v - c,
+        },
+    );
+    best(lower, upper)
+}
+
+// The remainder of (a, b) modulo (c, d).
+fn remainder(a: i64, b: i64, c: i64, d: i64) -> Wide
+    requires { ⌜ (natAbs a ≤ 2 ^ 40) × (natAbs b ≤ 2 ^ 40) × (natAbs c ≤ 4095) × (natAbs d ≤ 4095) × (value c d ≢ 𝟘) ⌝ }
+    ensures { λ r. ⌜ value (r .a) (r .b) ≡ modQ (value c d) (value a b) ⌝ }
+{
+    let n = norm(c, d);
+    let first = first_corner(a, b, c, d, n);
+    let u = first.a;
+    let v = first.b;
+    best_corner(u, v, c, d)
 }

@@ -6,7 +6,7 @@ use mathlib.Core.List.{List, [], _∷_, map}
 use Prim.Native.Nat.{ℕ, zero, suc, _+_, _*_, _/_, _%_, _^_, _≤_, _<_}
 use native.Mathlib.Omega.{arith}
 use native.Mathlib.Nat.{le-trans, le-refl, mul-le-mul, lt-of-le-of-lt, div-le-self, mod-le, mul-div-cancel-left, zero-div}
-use lib.Dec.{T, ltb, ltb→lt, leb}
+use lib.Dec.{T, ltb, ltb→lt, leb, leb→le}
 use lib.IntN.{ℤ, pos, negsuc, negℤ, natAbs, _+ℤ_, _-ℤ_, _*ℤ_}
 use lib.Signed.{mag, ltZ, quotZ, remZ, _<ℤ_, _≤ℤ_, ltZ-yes, ltZ-no}
 use mir.Syntax.{Width, w32, w64}
@@ -167,6 +167,11 @@ fits-meant w ρ e t = let s = sound w ρ e t in sfits-within (eval (meanings ρ)
 
 pub size : (w : Width) (ρ : List Leaf) (e : Expr) → T (safe w ρ e) → natAbs (eval (meanings ρ) e) ≤ limit ρ e
 size w ρ e t = sound w ρ e t .small
+
+-- what the code reads back is within a bound that its limit is within
+pub size-read : (w : Width) (ρ : List Leaf) (e : Expr) (b : ℕ) → T (safe w ρ e) → T (leb (limit ρ e) b) → natAbs (reading w e (stored w ρ e)) ≤ b
+size-read w ρ e b t l =
+    subst (λ (z : ℤ). natAbs z ≤ b) (sym (exact w ρ e t)) (le-trans (size w ρ e t) (leb→le (limit ρ e) b l))
 
 -- ---- tests of order, as a branch leaves them: of a′ and b′ as the code has them, which are a and b
 

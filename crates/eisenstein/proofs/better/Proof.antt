@@ -11,7 +11,7 @@ use mir.Facts.{toZ-ofZ}
 use Rattle.integers.proofs.Order.{orders, ≤ℤ-antisym, above-pos, below-pos}
 use Rattle.integers.proofs.Machine.{lt-read, le-read}
 use Rattle.eisenstein.specs.Values.{ℤ[ω], value, norm}
-use Rattle.eisenstein.proofs.Best.{better-norm, worse-norm, better-a, worse-a, better-b}
+use Rattle.eisenstein.proofs.TieRule.{better-norm, worse-norm, better-a, worse-a, better-b}
 use Rattle.eisenstein.proofs.better.Statement.{statement}
 use Rattle.eisenstein.proofs.better.Tie as tie
 

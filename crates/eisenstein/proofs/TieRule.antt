@@ -162,3 +162,11 @@ better-b r s e f =
     tie-norm r s e
     ∙ ap₂ (λ (t u : Bool). t || (u && ltZ (s .b) (r .b))) (is-false (ltZ (s .a) (r .a)) (λ t. <ℤ-≢ (ltZ-yes t) f))
       (is-true (sameℤ (s .a) (r .a)) (subst (λ (z : ℤ). T (sameℤ (s .a) z)) f (sameℤ-refl (s .a))))
+
+pub best-second : (r s : ℤ[ω]) → better s r ≡ true → best r s ≡ s
+unfolding best
+best-second r s e = ap (λ (t : Bool). cond t s r) e
+
+pub best-first : (r s : ℤ[ω]) → better s r ≡ false → best r s ≡ r
+unfolding best
+best-first r s e = ap (λ (t : Bool). cond t s r) e

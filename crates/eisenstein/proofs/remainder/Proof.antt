@@ -1,0 +1,61 @@
+-- `remainder` meets its contract: the best of the corners is `modQ`.
+use mathlib.Core.Path.{_≡_, sym, _∙_, ap₂}
+use mathlib.Core.List.{List, [], _∷_}
+use Prim.Native.Nat.{_^_}
+use borrow.Author.Needs.{needs}
+use lib.Dec.{lit<}
+use mir.Syntax.{w64}
+use mir.Val.{toZ, ofZ}
+use mir.Facts.{toZ-ofZ}
+use Rattle.integers.proofs.Ring.{Expr, var}
+use Rattle.integers.proofs.Machine.{Leaf, given, exact, size-read, sfits-within}
+use Rattle.eisenstein.specs.Values.{ℤ[ω], value}
+use Rattle.eisenstein.specs.Reduction.{corner, best}
+use Rattle.eisenstein.proofs.Corners.{less10, less01, less11, best-corner-is}
+use Rattle.eisenstein.proofs.remainder.Statement.{statement}
+use Rattle.eisenstein.proofs.remainder.Tie as tie
+
+abbrev ρ : tie.Start → List Leaf
+ρ c =
+    given (c .args .a) (2 ^ 40) (c .pre .0)
+    ∷ given (c .args .b) (2 ^ 40) (c .pre .1)
+    ∷ given (c .args .c) 4095 (c .pre .2)
+    ∷ given (c .args .d) 4095 (c .pre .3)
+    ∷ []
+
+abbrev x : tie.Start → ℤ[ω]
+x c = value (c .args .a) (c .args .b)
+
+abbrev q : tie.Start → ℤ[ω]
+q c = value (c .args .c) (c .args .d)
+
+-- the value and the modulus as a callee is handed them
+x-read : (c : tie.Start) → value (toZ w64 (ofZ w64 (c .args .a))) (toZ w64 (ofZ w64 (c .args .b))) ≡ x c
+x-read c = ap₂ value (exact w64 (ρ c) (var 0) tt) (exact w64 (ρ c) (var 1) tt)
+
+q-read : (c : tie.Start) → value (toZ w64 (ofZ w64 (c .args .c))) (toZ w64 (ofZ w64 (c .args .d))) ≡ q c
+q-read c = ap₂ value (exact w64 (ρ c) (var 2) tt) (exact w64 (ρ c) (var 3) tt)
+
+pub remainder-spec : {M : Type 1} → statement M
+remainder-spec =
+    tie.close
+    (tie.spec
+    (λ c κs. (size-read w64 (ρ c) (var 2) (2 ^ 30) tt tt, size-read w64 (ρ c) (var 3) (2 ^ 30) tt tt))
+    (λ c κs.
+        let s = c .before in
+        (size-read w64 (ρ s) (var 0) (2 ^ 40) tt tt,
+        size-read w64 (ρ s) (var 1) (2 ^ 40) tt tt,
+        size-read w64 (ρ s) (var 2) 4095 tt tt,
+        size-read w64 (ρ s) (var 3) 4095 tt tt,
+        (λ e. s .pre .4 (sym (q-read s) ∙ e)),
+        toZ-ofZ (search needs) ∙ c .norm .ensures))
+    (λ c κs. search needs)
+    (λ c.
+        let s = c .before .before .before .before .before in
+        let f = c .before .before .before .first-corner in
+        c .best-corner .ensures
+        ∙ ap₂ (λ (r q : ℤ[ω]). best (best r (less10 q r)) (best (less01 q r) (less11 q r)))
+          (ap₂ value (toZ-ofZ (sfits-within (f .result .a) (f .ensures .1) (lit< tt))) (toZ-ofZ (sfits-within (f .result .b) (f .ensures .2) (lit< tt)))
+          ∙ f .ensures .0 ∙ ap₂ (λ (q x : ℤ[ω]). corner q x 0 0) (q-read s) (x-read s))
+          (q-read s)
+        ∙ best-corner-is (q s) (x s)))
