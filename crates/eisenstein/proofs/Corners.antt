@@ -67,8 +67,8 @@ unfolding corner cell
 first-corner-is q x h =
     sym
     (ap₂ (λ (u v : ℤ). value u v *ω q)
-      (ap (λ (f : ℤ). (x *ω conj q) .a -ℤ (f *ℤ cell q x .a)) (norm-form q) ∙ rest-is (pos (norm q)) (cell q x .a) (pos (α q x)) ((x *ω conj q) .a) (floor ((x *ω conj q) .a) (norm q) (norm-pos q h)))
-      (ap (λ (f : ℤ). (x *ω conj q) .b -ℤ (f *ℤ cell q x .b)) (norm-form q) ∙ rest-is (pos (norm q)) (cell q x .b) (pos (β q x)) ((x *ω conj q) .b) (floor ((x *ω conj q) .b) (norm q) (norm-pos q h))))
+    (ap (λ (f : ℤ). (x *ω conj q) .a -ℤ (f *ℤ cell q x .a)) (norm-form q) ∙ rest-is (pos (norm q)) (cell q x .a) (pos (α q x)) ((x *ω conj q) .a) (floor ((x *ω conj q) .a) (norm q) (norm-pos q h)))
+    (ap (λ (f : ℤ). (x *ω conj q) .b -ℤ (f *ℤ cell q x .b)) (norm-form q) ∙ rest-is (pos (norm q)) (cell q x .b) (pos (β q x)) ((x *ω conj q) .b) (floor ((x *ω conj q) .b) (norm q) (norm-pos q h))))
     ∙ times-q x q (cell q x)
     ∙ ap (λ (f : ℤ). value (f *ℤ corner q x 0 0 .a) (f *ℤ corner q x 0 0 .b)) (norm-form q)
 

@@ -1,9 +1,11 @@
 pub mod Solver
 pub mod Laws
 pub mod Norms
+pub mod Equality
 pub mod TieRule
 pub mod Cover
 pub mod Remainders
 pub mod Modulo2
 pub mod Units
 pub mod Corners
+pub mod Limits

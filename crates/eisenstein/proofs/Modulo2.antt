@@ -1,17 +1,20 @@
 -- The remainder modulo 2 is in the value's class, and is the same for a whole class.
 use mathlib.Core.Path.{_≡_, refl, sym, _∙_, ap, ap₂, subst}
-use mathlib.Core.Bool.{Bool, true, false, cond, _&&_}
+use mathlib.Core.Bool.{Bool, true, false, not, cond, _&&_}
 use Prim.Native.Nat.{ℕ, zero, suc, _+_, _*_, _/_, _%_, _≤_, _<_}
 use native.Mathlib.Omega.{arith}
 use lib.Dec.{T, eqb, eqb→eq}
 use lib.IntN.{ℤ, pos, negsuc, negℤ, natAbs, _+ℤ_, _-ℤ_, _*ℤ_}
+use lib.Signed.{remZ}
+use mir.Syntax.{w64}
+use mir.Val.{ofZ}
 use mir.Facts.{and-yes}
 use Rattle.integers.proofs.Ring.{ring, con, _⊕_, _⊝_, _⊗_, ⊖_, _⊜_}
 use Rattle.integers.proofs.Order.{above, below, parts-eq, eq-parts, parts-+, above-pos, below-pos}
 use Rattle.eisenstein.specs.Values.{ℤ[ω], value, 𝟘, _+ω_, _*ω_, Congruent}
 use Rattle.eisenstein.specs.Reduction.{bit, mod2}
 use Rattle.eisenstein.specs.Promises.{Mod2-in-class, Mod2-by-class}
-use Rattle.eisenstein.proofs.Laws.{congruent-sym, congruent-trans}
+use Rattle.eisenstein.proofs.Laws.{congruent-trans}
 use Rattle.eisenstein.proofs.Solver.{ringω, conω, parts, _≐_, _⊞_, _⊟_, _⊠_}
 
 -- half of what is left of z without its last bit
@@ -70,3 +73,40 @@ mod2-by-class x y c =
   where
     e : x ≡ value (y .a +ℤ (c .quotient .a +ℤ c .quotient .a)) (y .b +ℤ (c .quotient .b +ℤ c .quotient .b))
     e = c .equation ∙ doubled y (c .quotient)
+
+-- ---- the remainder by the two parts' last bits
+
+abbrev pub by-bits : Bool → Bool → ℤ[ω]
+by-bits true true = value (negsuc 0) (negsuc 0)
+by-bits true false = value (pos 1) (pos 0)
+by-bits false true = value (pos 0) (pos 1)
+by-bits false false = value (pos 0) (pos 0)
+
+pub mod2-by-bits : (x : ℤ[ω]) → mod2 x ≡ by-bits (eqb (bit (x .a)) 1) (eqb (bit (x .b)) 1)
+unfolding mod2
+mod2-by-bits x = go (bit (x .a)) (bit (x .b)) (bit-lt (x .a)) (bit-lt (x .b))
+  where
+    go : (u v : ℕ) → u < 2 → v < 2 → cond (eqb u 1 && eqb v 1) (value (negsuc 0) (negsuc 0)) (value (pos u) (pos v)) ≡ by-bits (eqb u 1) (eqb v 1)
+    go zero zero p q = refl
+    go zero (suc zero) p q = refl
+    go zero (suc (suc v)) p q = absurd (omega arith)
+    go (suc zero) zero p q = refl
+    go (suc zero) (suc zero) p q = refl
+    go (suc zero) (suc (suc v)) p q = absurd (omega arith)
+    go (suc (suc u)) v p q = absurd (omega arith)
+
+-- the machine's remainder of a division by 2 is 0 just where the last bit is
+pub odd-test : (x : ℤ) → not (eqb (ofZ w64 (remZ x (pos 2))) 0) ≡ eqb (bit x) 1
+unfolding bit
+odd-test (pos a) = go (a % 2) (omega arith)
+  where
+    go : (r : ℕ) → r < 2 → not (eqb r 0) ≡ eqb r 1
+    go zero h = refl
+    go (suc zero) h = refl
+    go (suc (suc r)) h = absurd (omega arith)
+odd-test (negsuc a) = go (suc a % 2) (omega arith)
+  where
+    go : (r : ℕ) → r < 2 → not (eqb (ofZ w64 (negℤ (pos r))) 0) ≡ eqb r 1
+    go zero h = refl
+    go (suc zero) h = refl
+    go (suc (suc r)) h = absurd (omega arith)

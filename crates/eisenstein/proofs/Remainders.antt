@@ -1,20 +1,21 @@
 -- The remainder modulo q: `modQ` computes it, it is the only one, and small values are their own.
 use mathlib.Core.Path.{_≡_, refl, sym, _∙_, ap, ap₂, subst}
 use mathlib.Core.Logic.{_≢_}
-use Prim.Native.Nat.{ℕ, zero, suc, _+_, _*_, _≤_, _<_}
+use Prim.Native.Nat.{ℕ, zero, suc, _+_, _*_, _^_, _≤_, _<_}
 use native.Mathlib.Omega.{arith}
 use native.Mathlib.Decide.{decLe, ℕ-discrete}
 use native.Mathlib.Nat.{mul-le-mul-right, mul-le-mul-left, mul-assoc, le-of-mul-le-mul-right}
-use lib.IntN.{ℤ, pos, negℤ, _+ℤ_, _-ℤ_, _*ℤ_}
+use lib.IntN.{ℤ, pos, negℤ, natAbs, _+ℤ_, _-ℤ_, _*ℤ_}
 use lib.Signed.{shrZ}
 use Rattle.integers.proofs.Ring.{ring, con, _⊕_, _⊝_, _⊗_, ⊖_, _⊜_}
+use Rattle.integers.proofs.Absolute.{square-le}
 use Rattle.integers.proofs.Floor.{floor, floorRest, floorRest-lt}
 use Rattle.eisenstein.specs.Values.{ℤ[ω], value, 𝟘, _+ω_, _-ω_, _*ω_, norm, Congruent}
 use Rattle.eisenstein.specs.Reduction.{AsGood, smaller-norm, larger-a, larger-b, Remainder, conj, cell, corner, best, modQ}
 use Rattle.eisenstein.specs.Promises.{ModQ-is-remainder, Remainder-unique, Remainder-norm, Small-is-remainder}
 use Rattle.eisenstein.proofs.Solver.{ringω, parts, _≐_, _⊞_, _⊟_, _⊠_}
 use Rattle.eisenstein.proofs.Laws.{less-multiple, in-class-is, congruent-refl, *ω-zero, +ω-zero}
-use Rattle.eisenstein.proofs.Norms.{form, norm-form, norm-*, norm-conj, norm-zero, parallelogram}
+use Rattle.eisenstein.proofs.Norms.{form, norm-form, norm-*, norm-conj, norm-zero, norm-bound, part-a, part-b, parallelogram}
 use Rattle.eisenstein.proofs.TieRule.{as-good-refl, as-good-trans, as-good-antisym, best-good, best-ind}
 use Rattle.eisenstein.proofs.Cover.{Corner, c00, c10, c01, c11, offset, Near, some-near, IsCorner, only-corners}
 
@@ -168,3 +169,13 @@ small-is-remainder q x h = record { in-class = congruent-refl q x; as-good = goo
             (c .equation ∙ ap (λ (z : ℤ[ω]). s +ω q *ω z) (norm-zero (c .quotient) e) ∙ ap (λ (y : ℤ[ω]). s +ω y) (*ω-zero q) ∙ +ω-zero s)
             (as-good-refl x)
         go (no e) = far s (c .quotient) (c .equation) e
+
+-- ---- a remainder's parts are small where those of q are
+
+part-size : (m v : ℕ) → 3 * (m * m) ≤ 4 * v → v ≤ 16769025 → m ≤ 2 ^ 13
+part-size m v h k = square-le (omega arith)
+
+pub remainder-size : (q x r : ℤ[ω]) → q ≢ 𝟘 → natAbs (q .a) ≤ 4095 → natAbs (q .b) ≤ 4095 → Remainder q x r → (natAbs (r .a) ≤ 2 ^ 13) × (natAbs (r .b) ≤ 2 ^ 13)
+remainder-size q x r h k l m =
+    let n : norm r ≤ 16769025 = omega (arith, remainder-norm q x r h m, norm-bound q 4095 k l) in
+    (part-size (natAbs (r .a)) (norm r) (part-a r) n, part-size (natAbs (r .b)) (norm r) (part-b r) n)

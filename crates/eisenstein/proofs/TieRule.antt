@@ -12,19 +12,8 @@ use lib.Signed.{_≤ℤ_, _<ℤ_, ltZ, ≤ℤ-refl, ltZ-yes, ltZ-no, clashℤ}
 use mir.Facts.{and-yes, and-no, or-yes, or-no, ltb-yes, ltb-no, eqb-yes, T-not}
 use Rattle.integers.proofs.Order.{orders, less-or-equal, ≤ℤ-antisym, ≤ℤ-trans, <ℤ-trans, <ℤ-≢, <ℤ-asym, eq-parts}
 use Rattle.eisenstein.specs.Values.{ℤ[ω], value, norm, sameℤ}
+use Rattle.eisenstein.proofs.Equality.{sameℤ-yes, sameℤ-refl, is-true, is-false}
 use Rattle.eisenstein.specs.Reduction.{AsGood, smaller-norm, larger-a, larger-b, better, best}
-
-pub sameℤ-yes : (x y : ℤ) → T (sameℤ x y) → x ≡ y
-unfolding sameℤ
-sameℤ-yes (pos m) (pos n) t = ap pos (eqb→eq m n t)
-sameℤ-yes (pos m) (negsuc n) t = absurd t
-sameℤ-yes (negsuc m) (pos n) t = absurd t
-sameℤ-yes (negsuc m) (negsuc n) t = ap negsuc (eqb→eq m n t)
-
-pub sameℤ-refl : (x : ℤ) → T (sameℤ x x)
-unfolding sameℤ
-sameℤ-refl (pos n) = eqb-refl n
-sameℤ-refl (negsuc n) = eqb-refl n
 
 pub as-good-refl : (r : ℤ[ω]) → AsGood r r
 as-good-refl r = larger-b refl refl (≤ℤ-refl (r .b))
@@ -136,14 +125,6 @@ unfolding better larger
 tie-norm r s h =
     ap₂ (λ (t u : Bool). t || (u && larger r s)) (le-ltb (norm r) (norm s) (omega arith)) (eq-eqb (norm r) (norm s) h)
 
-is-true : (t : Bool) → T t → t ≡ true
-is-true true h = refl
-is-true false h = absurd h
-
-is-false : (t : Bool) → (T t → ⊥) → t ≡ false
-is-false true h = absurd (h tt)
-is-false false h = refl
-
 pub better-a : (r s : ℤ[ω]) → norm r ≡ norm s → s .a <ℤ r .a → better r s ≡ true
 unfolding larger
 better-a r s e h =
@@ -154,14 +135,14 @@ unfolding larger
 worse-a r s e h =
     tie-norm r s e
     ∙ ap₂ (λ (t u : Bool). t || (u && ltZ (s .b) (r .b))) (is-false (ltZ (s .a) (r .a)) (λ t. <ℤ-asym h (ltZ-yes t)))
-      (is-false (sameℤ (s .a) (r .a)) (λ t. <ℤ-≢ h (sym (sameℤ-yes (s .a) (r .a) t))))
+    (is-false (sameℤ (s .a) (r .a)) (λ t. <ℤ-≢ h (sym (sameℤ-yes (s .a) (r .a) t))))
 
 pub better-b : (r s : ℤ[ω]) → norm r ≡ norm s → s .a ≡ r .a → better r s ≡ ltZ (s .b) (r .b)
 unfolding larger
 better-b r s e f =
     tie-norm r s e
     ∙ ap₂ (λ (t u : Bool). t || (u && ltZ (s .b) (r .b))) (is-false (ltZ (s .a) (r .a)) (λ t. <ℤ-≢ (ltZ-yes t) f))
-      (is-true (sameℤ (s .a) (r .a)) (subst (λ (z : ℤ). T (sameℤ (s .a) z)) f (sameℤ-refl (s .a))))
+    (is-true (sameℤ (s .a) (r .a)) (subst (λ (z : ℤ). T (sameℤ (s .a) z)) f (sameℤ-refl (s .a))))
 
 pub best-second : (r s : ℤ[ω]) → better s r ≡ true → best r s ≡ s
 unfolding best

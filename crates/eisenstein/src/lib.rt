@@ -3,14 +3,13 @@
 ghost use mathlib.Core.Path.{_≡_};
 ghost use mathlib.Core.Logic.{_≢_};
 ghost use Prim.Native.Nat.{_≤_, _<_, _%_, _^_};
-ghost use lib.Dec.{ltb};
+ghost use lib.Dec.{ltb, eqb};
 ghost use lib.IntN.{pos, natAbs, _+ℤ_, _-ℤ_};
 ghost use lib.Signed.{_<ℤ_, _≤ℤ_};
 ghost use Rattle.integers.proofs.Floor.{floorRest};
 ghost use Rattle.eisenstein.specs.Values.{value, 𝟘, norm, unit, same};
 ghost use Rattle.eisenstein.specs.Reduction.{better, best, corner, modQ, mod2, bit};
 ghost use Rattle.eisenstein.specs.Calls.{beyond, reduceQ, reduce2, answered};
-
 use refusals::Refusal;
 
 // A value a + bω of Z[ω], by its parts.
@@ -60,11 +59,7 @@ fn floor_rest(x: i64, n: i64) -> i64
     requires { ⌜ (natAbs x ≤ 2 ^ 60) × (natAbs n ≤ 2 ^ 60) × (pos 0 <ℤ n) ⌝ }
     ensures { λ r. ⌜ r ≡ pos (floorRest x (natAbs n)) ⌝ }
 {
-    if x < 0 {
-        n - 1 - (-1 - x) % n
-    } else {
-        x % n
-    }
+    if x < 0 { n - 1 - (-1 - x) % n } else { x % n }
 }
 
 // Whether x is below −limit or above it.
@@ -157,4 +152,85 @@ fn remainder(a: i64, b: i64, c: i64, d: i64) -> Wide
     let u = first.a;
     let v = first.b;
     best_corner(u, v, c, d)
+}
+
+// Whether a part of (a, b) is below −limit or above it.
+fn beyond(a: i64, b: i64, limit: i64) -> bool
+    requires { ⌜ (pos 0 <ℤ limit) × (natAbs limit ≤ 2 ^ 60) ⌝ }
+    ensures { λ r. ⌜ r ≡ beyond (natAbs limit) (value a b) ⌝ }
+{
+    if outside(a, limit) {
+        return true;
+    }
+    outside(b, limit)
+}
+
+fn is_zero(a: i64, b: i64) -> bool
+    ensures { λ r. ⌜ r ≡ same (value a b) 𝟘 ⌝ }
+{
+    if a == 0 {
+        return b == 0;
+    }
+    false
+}
+
+fn odd(x: i64) -> bool
+    ensures { λ r. ⌜ r ≡ eqb (bit x) 1 ⌝ }
+{
+    x % 2 != 0
+}
+
+// The remainder of (a, b) modulo 2.
+fn remainder_2(a: i64, b: i64) -> Pair
+    ensures { λ r. ⌜ value (r .a) (r .b) ≡ mod2 (value a b) ⌝ }
+{
+    if odd(a) {
+        if odd(b) {
+            return Pair { a: -1, b: -1 };
+        }
+        return Pair { a: 1, b: 0 };
+    }
+    if odd(b) {
+        return Pair { a: 0, b: 1 };
+    }
+    Pair { a: 0, b: 0 }
+}
+
+// A part of q is at most 4,095 in size, a part of a value 2^40.
+const MODULUS_LIMIT: i64 = 4095;
+
+const VALUE_LIMIT: i64 = 1_099_511_627_776;
+
+// One value (a, b) modulo q = (c, d): refusals 2, 21, 22, or the remainder.
+pub fn reduce_q(a: i64, b: i64, c: i32, d: i32) -> Reduced
+    ensures { λ r. ⌜ answered r ≡ reduceQ (value c d) (value a b) ⌝ }
+{
+    let cw = c as i64;
+    let dw = d as i64;
+    if beyond(cw, dw, MODULUS_LIMIT) {
+        return Reduced::Refused(Refusal::ModulusPartOutOfRange);
+    }
+    if is_zero(cw, dw) {
+        return Reduced::Refused(Refusal::ModulusZero);
+    }
+    if beyond(a, b, VALUE_LIMIT) {
+        return Reduced::Refused(Refusal::ValueOutOfRange);
+    }
+    let r = remainder(a, b, cw, dw);
+    let ra = r.a;
+    let rb = r.b;
+    Reduced::Remainder(Pair {
+        a: ra as i32,
+        b: rb as i32,
+    })
+}
+
+// One value (a, b) modulo 2: refusal 22, or the remainder.
+pub fn reduce_2(a: i64, b: i64) -> Reduced
+    ensures { λ r. ⌜ answered r ≡ reduce2 (value a b) ⌝ }
+{
+    if beyond(a, b, VALUE_LIMIT) {
+        return Reduced::Refused(Refusal::ValueOutOfRange);
+    }
+    Reduced::Remainder(remainder_2(a, b))
 }

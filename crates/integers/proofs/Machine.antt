@@ -113,47 +113,47 @@ and₃ true false r t = absurd t
 and₃ false q r t = absurd t
 
 sound : (w : Width) (ρ : List Leaf) (e : Expr) → T (safe w ρ e) → Sound w ρ e
-sound w ρ (var i) t = record
-  { is = leaf ρ i .is ∙ meant-at ρ i
-  ; small = subst (λ (z : ℤ). natAbs z ≤ leaf ρ i .bound) (meant-at ρ i) (leaf ρ i .small)
-  ; below = ltb→lt _ _ t
-  }
+sound w ρ (var i) t = record {
+  is = leaf ρ i .is ∙ meant-at ρ i;
+  small = subst (λ (z : ℤ). natAbs z ≤ leaf ρ i .bound) (meant-at ρ i) (leaf ρ i .small);
+  below = ltb→lt _ _ t;
+}
 sound w ρ (con c) t = record { is = refl; small = le-refl (natAbs c); below = ltb→lt _ _ t }
 sound w ρ (a ⊕ b) t =
     let (l, p, q) = and₃ (ltb (limit ρ (a ⊕ b)) (2 ^ hbits w)) (safe w ρ a) (safe w ρ b) t in
     let x = sound w ρ a p in
     let y = sound w ρ b q in
-    record
-      { is = ap₂ _+ℤ_ (sound-read a x) (sound-read b y)
-      ; small = le-trans (natAbs-+ (eval (meanings ρ) a) (eval (meanings ρ) b)) (omega (arith, x .small, y .small))
-      ; below = ltb→lt _ _ l
-      }
+    record {
+      is = ap₂ _+ℤ_ (sound-read a x) (sound-read b y);
+      small = le-trans (natAbs-+ (eval (meanings ρ) a) (eval (meanings ρ) b)) (omega (arith, x .small, y .small));
+      below = ltb→lt _ _ l;
+    }
 sound w ρ (a ⊝ b) t =
     let (l, p, q) = and₃ (ltb (limit ρ (a ⊝ b)) (2 ^ hbits w)) (safe w ρ a) (safe w ρ b) t in
     let x = sound w ρ a p in
     let y = sound w ρ b q in
-    record
-      { is = ap₂ _-ℤ_ (sound-read a x) (sound-read b y)
-      ; small = le-trans (natAbs-- (eval (meanings ρ) a) (eval (meanings ρ) b)) (omega (arith, x .small, y .small))
-      ; below = ltb→lt _ _ l
-      }
+    record {
+      is = ap₂ _-ℤ_ (sound-read a x) (sound-read b y);
+      small = le-trans (natAbs-- (eval (meanings ρ) a) (eval (meanings ρ) b)) (omega (arith, x .small, y .small));
+      below = ltb→lt _ _ l;
+    }
 sound w ρ (a ⊗ b) t =
     let (l, p, q) = and₃ (ltb (limit ρ (a ⊗ b)) (2 ^ hbits w)) (safe w ρ a) (safe w ρ b) t in
     let x = sound w ρ a p in
     let y = sound w ρ b q in
-    record
-      { is = ap₂ _*ℤ_ (sound-read a x) (sound-read b y)
-      ; small = subst (λ (n : ℕ). n ≤ limit ρ a * limit ρ b) (sym (natAbs-* (eval (meanings ρ) a) (eval (meanings ρ) b))) (mul-le-mul (x .small) (y .small))
-      ; below = ltb→lt _ _ l
-      }
+    record {
+      is = ap₂ _*ℤ_ (sound-read a x) (sound-read b y);
+      small = subst (λ (n : ℕ). n ≤ limit ρ a * limit ρ b) (sym (natAbs-* (eval (meanings ρ) a) (eval (meanings ρ) b))) (mul-le-mul (x .small) (y .small));
+      below = ltb→lt _ _ l;
+    }
 sound w ρ (⊖ a) t =
     let (l, p) = and-yes (ltb (limit ρ (⊖ a)) (2 ^ hbits w)) (safe w ρ a) t in
     let x = sound w ρ a p in
-    record
-      { is = ap negℤ (sound-read a x)
-      ; small = subst (λ (n : ℕ). n ≤ limit ρ a) (sym (natAbs-neg (eval (meanings ρ) a))) (x .small)
-      ; below = ltb→lt _ _ l
-      }
+    record {
+      is = ap negℤ (sound-read a x);
+      small = subst (λ (n : ℕ). n ≤ limit ρ a) (sym (natAbs-neg (eval (meanings ρ) a))) (x .small);
+      below = ltb→lt _ _ l;
+    }
 
 pub fits : (w : Width) (ρ : List Leaf) (e : Expr) → T (safe w ρ e) → SFits w (stored w ρ e)
 fits w ρ e t = sound-fits (sound w ρ e t)
@@ -181,6 +181,11 @@ lt-read {a} {b} e f h = ltZ-yes (subst T (sym (sym (ap₂ ltZ e f) ∙ h)) tt)
 pub le-read : {a b a′ b′ : ℤ} → a′ ≡ a → b′ ≡ b → ltZ a′ b′ ≡ false → b ≤ℤ a
 le-read {a} {b} e f h = ltZ-no (subst (λ (t : Bool). T (not t)) (sym (sym (ap₂ ltZ e f) ∙ h)) tt)
 
+-- ---- equality, as the code tests it: of the bits
+
+pub bits-same : {w : Width} {a b : ℤ} → SFits w a → SFits w b → ofZ w a ≡ ofZ w b → a ≡ b
+bits-same {w} f g e = sym (toZ-ofZ f) ∙ ap (toZ w) e ∙ toZ-ofZ g
+
 -- ---- division by a positive number
 
 -- a positive number
@@ -200,9 +205,10 @@ mag-quot (negsuc a) m = mag-neg (suc a / m) a (div-le-self (suc a) m)
 -- what a division asks: the divisor's bits are not 0, and the quotient fits
 pub division : (w : Width) {x n x′ n′ : ℤ} → x′ ≡ x → n′ ≡ n → pos 0 <ℤ n → SFits w x → (0 < ofZ w n) × SFits w (quotZ x′ n′)
 division w {x} {n} {x′} {n′} e f h s =
-    let (m, g) = positive n h in
-    (subst (λ (z : ℤ). 0 < ofZ w z) (sym g) (omega arith),
-    subst (SFits w) (sym (ap₂ quotZ e (f ∙ g))) (sfits-le (mag-quot x (suc m)) s))
+    let (m, g) = positive n h in (
+      subst (λ (z : ℤ). 0 < ofZ w z) (sym g) (omega arith),
+      subst (SFits w) (sym (ap₂ quotZ e (f ∙ g))) (sfits-le (mag-quot x (suc m)) s),
+    )
 
 -- a multiple of a positive number, divided by it
 pub quotient : (n : ℕ) (r : ℤ) → 0 < n → quotZ (pos n *ℤ r) (pos n) ≡ r
@@ -220,10 +226,10 @@ natAbs-rem (negsuc a) n =
 
 -- the remainder that a division leaves, as a number that an expression starts from
 abbrev pub rest : {x n x′ n′ : ℤ} (b : ℕ) → x′ ≡ x → n′ ≡ n → natAbs x ≤ b → Leaf
-rest {x} {n} {x′} {n′} b e f h = record
-  { code = remZ x′ n′
-  ; meant = remZ x n
-  ; bound = b
-  ; is = ap₂ remZ e f
-  ; small = le-trans (natAbs-rem x n) h
-  }
+rest {x} {n} {x′} {n′} b e f h = record {
+  code = remZ x′ n′;
+  meant = remZ x n;
+  bound = b;
+  is = ap₂ remZ e f;
+  small = le-trans (natAbs-rem x n) h;
+}

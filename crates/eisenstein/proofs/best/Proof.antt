@@ -24,12 +24,12 @@ best-spec =
     (tie.spec
     (λ c κs. search needs)
     (λ c.
-        let d = c .before .before .before .before .before .before in
-        let s-is = ap₂ value (back (d .args .s .a) (d .pre .2)) (back (d .args .s .b) (d .pre .3)) in
-        let r-is = ap₂ value (back (d .args .r .a) (d .pre .0)) (back (d .args .r .b) (d .pre .1)) in
-        s-is ∙ sym (best-second _ _ (sym (ap₂ better s-is r-is) ∙ sym (c .before .better .ensures) ∙ c .if1 .taken)))
+    let d = c .before .before .before .before .before .before in
+    let s-is = ap₂ value (back (d .args .s .a) (d .pre .2)) (back (d .args .s .b) (d .pre .3)) in
+    let r-is = ap₂ value (back (d .args .r .a) (d .pre .0)) (back (d .args .r .b) (d .pre .1)) in
+    s-is ∙ sym (best-second _ _ (sym (ap₂ better s-is r-is) ∙ sym (c .before .better .ensures) ∙ c .if1 .taken)))
     (λ c.
-        let d = c .before .before .before .before .before .before in
-        let s-is = ap₂ value (back (d .args .s .a) (d .pre .2)) (back (d .args .s .b) (d .pre .3)) in
-        let r-is = ap₂ value (back (d .args .r .a) (d .pre .0)) (back (d .args .r .b) (d .pre .1)) in
-        r-is ∙ sym (best-first _ _ (sym (ap₂ better s-is r-is) ∙ sym (c .before .better .ensures) ∙ c .if1 .left))))
+    let d = c .before .before .before .before .before .before in
+    let s-is = ap₂ value (back (d .args .s .a) (d .pre .2)) (back (d .args .s .b) (d .pre .3)) in
+    let r-is = ap₂ value (back (d .args .r .a) (d .pre .0)) (back (d .args .r .b) (d .pre .1)) in
+    r-is ∙ sym (best-first _ _ (sym (ap₂ better s-is r-is) ∙ sym (c .before .better .ensures) ∙ c .if1 .left))))

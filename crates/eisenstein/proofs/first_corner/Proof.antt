@@ -81,8 +81,8 @@ x-is c =
     let s = c .before in
     c .floor-rest .ensures
     ∙ ap₂ (λ (y m : ℤ). pos (floorRest y (natAbs m)))
-      (exact w64 (ρ s) left tt ∙ left-is (s .args .a) (s .args .b) (s .args .c) (s .args .d))
-      (exact w64 (ρ s) n tt ∙ s .pre .5)
+    (exact w64 (ρ s) left tt ∙ left-is (s .args .a) (s .args .b) (s .args .c) (s .args .d))
+    (exact w64 (ρ s) n tt ∙ s .pre .5)
 
 y-is : (c : tie.After-floor-rest2) → c .floor-rest2 .result ≡ pos (β (q (c .before .before)) (z (c .before .before)))
 unfolding _*ω_
@@ -90,8 +90,8 @@ y-is c =
     let s = c .before .before in
     c .floor-rest2 .ensures
     ∙ ap₂ (λ (y m : ℤ). pos (floorRest y (natAbs m)))
-      (exact w64 (ρ s) right tt ∙ right-is (s .args .a) (s .args .b) (s .args .c) (s .args .d))
-      (exact w64 (ρ s) n tt ∙ s .pre .5)
+    (exact w64 (ρ s) right tt ∙ right-is (s .args .a) (s .args .b) (s .args .c) (s .args .d))
+    (exact w64 (ρ s) n tt ∙ s .pre .5)
 
 -- a remainder is below n
 rest-bound : (c : tie.Start) (y : ℤ) (r : ℤ) → r ≡ pos (floorRest y (norm (q c))) → natAbs r ≤ 2 ^ 26
@@ -126,8 +126,8 @@ unfolding _*ω_
 a-is c =
     let s = c .before .before in
     ap₂ quotZ
-      (ap₂ (λ (u v : ℤ). (u *ℤ s .args .c) -ℤ (v *ℤ s .args .d)) (x-is (c .before)) (y-is c) ∙ ap (λ (w : ℤ[ω]). w .a) (first-corner-is (q s) (z s) (s .pre .4)))
-      (s .pre .5)
+    (ap₂ (λ (u v : ℤ). (u *ℤ s .args .c) -ℤ (v *ℤ s .args .d)) (x-is (c .before)) (y-is c) ∙ ap (λ (w : ℤ[ω]). w .a) (first-corner-is (q s) (z s) (s .pre .4)))
+    (s .pre .5)
     ∙ quotient (norm (q s)) _ (norm-pos (q s) (s .pre .4))
 
 b-is : (c : tie.After-floor-rest2) → quotZ (((c .before .floor-rest .result *ℤ c .before .before .args .d) +ℤ (c .floor-rest2 .result *ℤ c .before .before .args .c)) -ℤ (c .floor-rest2 .result *ℤ c .before .before .args .d)) (c .before .before .args .n) ≡ corner (q (c .before .before)) (z (c .before .before)) 0 0 .b
@@ -135,8 +135,8 @@ unfolding _*ω_
 b-is c =
     let s = c .before .before in
     ap₂ quotZ
-      (ap₂ (λ (u v : ℤ). ((u *ℤ s .args .d) +ℤ (v *ℤ s .args .c)) -ℤ (v *ℤ s .args .d)) (x-is (c .before)) (y-is c) ∙ ap (λ (w : ℤ[ω]). w .b) (first-corner-is (q s) (z s) (s .pre .4)))
-      (s .pre .5)
+    (ap₂ (λ (u v : ℤ). ((u *ℤ s .args .d) +ℤ (v *ℤ s .args .c)) -ℤ (v *ℤ s .args .d)) (x-is (c .before)) (y-is c) ∙ ap (λ (w : ℤ[ω]). w .b) (first-corner-is (q s) (z s) (s .pre .4)))
+    (s .pre .5)
     ∙ quotient (norm (q s)) _ (norm-pos (q s) (s .pre .4))
 
 a-size : (c : tie.Start) → natAbs (corner (q c) (z c) 0 0 .a) ≤ 2 ^ 14

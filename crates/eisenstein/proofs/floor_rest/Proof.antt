@@ -43,6 +43,6 @@ floor-rest-spec =
     (λ c. fits w64 (ρ′ (c .before)) (var 0 ⊝ con (pos 1) ⊝ var 1) tt)
     (λ c. division w64 (exact w64 (ρ (c .before)) x tt) (exact w64 (ρ (c .before)) n tt) (c .before .pre .2) (c .before .fits .x))
     (λ c. exact w64 (ρ′ (c .before)) (var 0 ⊝ con (pos 1) ⊝ var 1) tt
-        ∙ rest-negative (c .before .args .x) (c .before .args .n) (lt-read (toZ-ofZ (c .before .fits .x)) refl (c .if1 .taken)) (c .before .pre .2))
+    ∙ rest-negative (c .before .args .x) (c .before .args .n) (lt-read (toZ-ofZ (c .before .fits .x)) refl (c .if1 .taken)) (c .before .pre .2))
     (λ c. exact w64 (ρ″ (c .before)) (var 0) tt
-        ∙ rest-natural (c .before .args .x) (c .before .args .n) (le-read (toZ-ofZ (c .before .fits .x)) refl (c .if1 .left))))
+    ∙ rest-natural (c .before .args .x) (c .before .args .n) (le-read (toZ-ofZ (c .before .fits .x)) refl (c .if1 .left))))

@@ -26,4 +26,4 @@ outside-spec =
     (λ c. fits w64 (ρ c) low tt)
     (λ c. sym (lt-ltb _ _ (outside-low (c .before .args .x) (c .before .args .limit) (c .before .pre .0) (lt-read (toZ-ofZ (c .before .fits .x)) (exact w64 (ρ (c .before)) low tt) (c .if1 .taken)))))
     (λ c. ap₂ ltZ (toZ-ofZ (c .before .fits .limit)) (toZ-ofZ (c .before .fits .x))
-        ∙ outside-high (c .before .args .x) (c .before .args .limit) (c .before .pre .0) (le-read (toZ-ofZ (c .before .fits .x)) (exact w64 (ρ (c .before)) low tt) (c .if1 .left))))
+    ∙ outside-high (c .before .args .x) (c .before .args .limit) (c .before .pre .0) (le-read (toZ-ofZ (c .before .fits .x)) (exact w64 (ρ (c .before)) low tt) (c .if1 .left))))

@@ -42,20 +42,21 @@ remainder-spec =
     (tie.spec
     (λ c κs. (size-read w64 (ρ c) (var 2) (2 ^ 30) tt tt, size-read w64 (ρ c) (var 3) (2 ^ 30) tt tt))
     (λ c κs.
-        let s = c .before in
-        (size-read w64 (ρ s) (var 0) (2 ^ 40) tt tt,
-        size-read w64 (ρ s) (var 1) (2 ^ 40) tt tt,
-        size-read w64 (ρ s) (var 2) 4095 tt tt,
-        size-read w64 (ρ s) (var 3) 4095 tt tt,
-        (λ e. s .pre .4 (sym (q-read s) ∙ e)),
-        toZ-ofZ (search needs) ∙ c .norm .ensures))
+    let s = c .before in (
+      size-read w64 (ρ s) (var 0) (2 ^ 40) tt tt,
+      size-read w64 (ρ s) (var 1) (2 ^ 40) tt tt,
+      size-read w64 (ρ s) (var 2) 4095 tt tt,
+      size-read w64 (ρ s) (var 3) 4095 tt tt,
+      (λ e. s .pre .4 (sym (q-read s) ∙ e)),
+      toZ-ofZ (search needs) ∙ c .norm .ensures,
+    ))
     (λ c κs. search needs)
     (λ c.
-        let s = c .before .before .before .before .before in
-        let f = c .before .before .before .first-corner in
-        c .best-corner .ensures
-        ∙ ap₂ (λ (r q : ℤ[ω]). best (best r (less10 q r)) (best (less01 q r) (less11 q r)))
-          (ap₂ value (toZ-ofZ (sfits-within (f .result .a) (f .ensures .1) (lit< tt))) (toZ-ofZ (sfits-within (f .result .b) (f .ensures .2) (lit< tt)))
-          ∙ f .ensures .0 ∙ ap₂ (λ (q x : ℤ[ω]). corner q x 0 0) (q-read s) (x-read s))
-          (q-read s)
-        ∙ best-corner-is (q s) (x s)))
+    let s = c .before .before .before .before .before in
+    let f = c .before .before .before .first-corner in
+    c .best-corner .ensures
+    ∙ ap₂ (λ (r q : ℤ[ω]). best (best r (less10 q r)) (best (less01 q r) (less11 q r)))
+    (ap₂ value (toZ-ofZ (sfits-within (f .result .a) (f .ensures .1) (lit< tt))) (toZ-ofZ (sfits-within (f .result .b) (f .ensures .2) (lit< tt)))
+    ∙ f .ensures .0 ∙ ap₂ (λ (q x : ℤ[ω]). corner q x 0 0) (q-read s) (x-read s))
+    (q-read s)
+    ∙ best-corner-is (q s) (x s)))

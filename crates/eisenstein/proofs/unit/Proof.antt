@@ -11,7 +11,7 @@ use lib.ListN.{getD}
 use Rattle.integers.proofs.Tests.{every, every-at}
 use Rattle.eisenstein.specs.Values.{ℤ[ω], value, unit, same, sameℤ}
 use Rattle.eisenstein.specs.declared.Pair.{Pair}
-use Rattle.eisenstein.proofs.Units.{same-yes}
+use Rattle.eisenstein.proofs.Equality.{same-yes}
 use Rattle.eisenstein.proofs.unit.Statement.{statement}
 use Rattle.eisenstein.proofs.unit.Tie as tie
 

@@ -1,0 +1,25 @@
+-- `is_zero` meets its contract.
+use mathlib.Core.Path.{_≡_, sym, _∙_, ap, ap₂}
+use mathlib.Core.Bool.{Bool, _&&_}
+use lib.IntN.{ℤ, pos}
+use mir.Syntax.{w64}
+use mir.Val.{ofZ}
+use mir.Facts.{sfits-lit}
+use Rattle.integers.proofs.Machine.{bits-same}
+use Rattle.eisenstein.specs.Values.{same, sameℤ}
+use Rattle.eisenstein.proofs.Equality.{same-bits, sameℤ-true, sameℤ-false}
+use Rattle.eisenstein.proofs.is_zero.Statement.{statement}
+use Rattle.eisenstein.proofs.is_zero.Tie as tie
+
+pub is-zero-spec : {M : Type 1} → statement M
+unfolding same
+is-zero-spec =
+    tie.close
+    (tie.spec
+    (λ c.
+    let s = c .before in
+    same-bits (s .args .b) (pos 0) (s .fits .b) (sfits-lit tt)
+    ∙ sym (ap (λ (t : Bool). t && sameℤ (s .args .b) (pos 0)) (sameℤ-true (bits-same (s .fits .a) (sfits-lit tt) (c .if1 .taken)))))
+    (λ c.
+    let s = c .before in
+    sym (ap (λ (t : Bool). t && sameℤ (s .args .b) (pos 0)) (sameℤ-false (λ e. c .if1 .left (ap (ofZ w64) e))))))
