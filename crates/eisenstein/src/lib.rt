@@ -47,11 +47,20 @@ struct Wide {
     b: i64,
 }
 
-fn norm(a: i64, b: i64) -> i64
+fn wide_norm(a: i64, b: i64) -> i64
     requires { ⌜ (natAbs a ≤ 2 ^ 30) × (natAbs b ≤ 2 ^ 30) ⌝ }
     ensures { λ r. ⌜ r ≡ pos (norm (value a b)) ⌝ }
 {
     a * a - a * b + b * b
+}
+
+// The norm of a value whose parts are of 16 bits.
+pub fn norm(a: i16, b: i16) -> u32
+    ensures { λ r. ⌜ r ≡ norm (value a b) ⌝ }
+{
+    let aw = a as i64;
+    let bw = b as i64;
+    wide_norm(aw, bw) as u32
 }
 
 // What division by n, rounded down, leaves of x.
@@ -78,8 +87,8 @@ fn better(ra: i64, rb: i64, sa: i64, sb: i64) -> bool
     requires { ⌜ (natAbs ra ≤ 2 ^ 30) × (natAbs rb ≤ 2 ^ 30) × (natAbs sa ≤ 2 ^ 30) × (natAbs sb ≤ 2 ^ 30) ⌝ }
     ensures { λ t. ⌜ t ≡ better (value ra rb) (value sa sb) ⌝ }
 {
-    let m = norm(ra, rb);
-    let n = norm(sa, sb);
+    let m = wide_norm(ra, rb);
+    let n = wide_norm(sa, sb);
     if m < n {
         return true;
     }
@@ -147,7 +156,7 @@ fn remainder(a: i64, b: i64, c: i64, d: i64) -> Wide
     requires { ⌜ (natAbs a ≤ 2 ^ 40) × (natAbs b ≤ 2 ^ 40) × (natAbs c ≤ 4095) × (natAbs d ≤ 4095) × (value c d ≢ 𝟘) ⌝ }
     ensures { λ r. ⌜ value (r .a) (r .b) ≡ modQ (value c d) (value a b) ⌝ }
 {
-    let n = norm(c, d);
+    let n = wide_norm(c, d);
     let first = first_corner(a, b, c, d, n);
     let u = first.a;
     let v = first.b;
@@ -174,7 +183,8 @@ fn is_zero(a: i64, b: i64) -> bool
     false
 }
 
-fn odd(x: i64) -> bool
+// Whether x is odd.
+pub fn odd(x: i64) -> bool
     ensures { λ r. ⌜ r ≡ eqb (bit x) 1 ⌝ }
 {
     x % 2 != 0
@@ -201,15 +211,24 @@ const MODULUS_LIMIT: i64 = 4095;
 
 const VALUE_LIMIT: i64 = 1_099_511_627_776;
 
+// Whether a part of q = (c, d) is out of range: the condition of refusal 2.
+pub fn modulus_out_of_range(c: i32, d: i32) -> bool
+    ensures { λ r. ⌜ r ≡ beyond 4095 (value c d) ⌝ }
+{
+    let cw = c as i64;
+    let dw = d as i64;
+    beyond(cw, dw, MODULUS_LIMIT)
+}
+
 // One value (a, b) modulo q = (c, d): refusals 2, 21, 22, or the remainder.
 pub fn reduce_q(a: i64, b: i64, c: i32, d: i32) -> Reduced
     ensures { λ r. ⌜ answered r ≡ reduceQ (value c d) (value a b) ⌝ }
 {
-    let cw = c as i64;
-    let dw = d as i64;
-    if beyond(cw, dw, MODULUS_LIMIT) {
+    if modulus_out_of_range(c, d) {
         return Reduced::Refused(Refusal::ModulusPartOutOfRange);
     }
+    let cw = c as i64;
+    let dw = d as i64;
     if is_zero(cw, dw) {
         return Reduced::Refused(Refusal::ModulusZero);
     }

@@ -11,7 +11,7 @@ use lib.IntN.{ℤ, pos, negsuc, negℤ, natAbs, _+ℤ_, _-ℤ_, _*ℤ_}
 use lib.Signed.{mag, ltZ, quotZ, remZ, _<ℤ_, _≤ℤ_, ltZ-yes, ltZ-no}
 use mir.Syntax.{Width, w32, w64}
 use mir.Val.{SFits, toZ, ofZ, hbits}
-use mir.Facts.{and-yes, toZ-ofZ}
+use mir.Facts.{and-yes, toZ-ofZ, sfits-widen}
 use mir.ValLaws.{sfits-le}
 use Rattle.integers.proofs.Ring.{Expr, var, con, _⊕_, _⊝_, _⊗_, ⊖_, at, eval}
 use Rattle.integers.proofs.Absolute.{natAbs-+, natAbs--, natAbs-*, natAbs-neg}
@@ -27,10 +27,6 @@ pub record Leaf : Type 0 where
 -- a number that is stored as it is meant
 abbrev pub given : (z : ℤ) (b : ℕ) → natAbs z ≤ b → Leaf
 given z b h = record { code = z; meant = z; bound = b; is = refl; small = h }
-
--- a number of width w that is cast to a wider type
-abbrev pub widened : (w : Width) (z : ℤ) (b : ℕ) → SFits w z → natAbs z ≤ b → Leaf
-widened w z b f h = record { code = toZ w (ofZ w z); meant = z; bound = b; is = toZ-ofZ f; small = h }
 
 abbrev pub leaf : List Leaf → ℕ → Leaf
 leaf [] i = given (pos 0) 0 (le-refl 0)
@@ -172,6 +168,14 @@ size w ρ e t = sound w ρ e t .small
 pub size-read : (w : Width) (ρ : List Leaf) (e : Expr) (b : ℕ) → T (safe w ρ e) → T (leb (limit ρ e) b) → natAbs (reading w e (stored w ρ e)) ≤ b
 size-read w ρ e b t l =
     subst (λ (z : ℤ). natAbs z ≤ b) (sym (exact w ρ e t)) (le-trans (size w ρ e t) (leb→le (limit ρ e) b l))
+
+-- ---- a number of width w, cast to a width that is no narrower
+
+pub cast-fits : {w w′ : Width} {z : ℤ} → T (leb (hbits w) (hbits w′)) → SFits w z → SFits w′ (toZ w (ofZ w z))
+cast-fits {w} {w′} t f = subst (SFits w′) (sym (toZ-ofZ f)) (sfits-widen t f)
+
+pub cast-read : {w : Width} (w′ : Width) {z : ℤ} → T (leb (hbits w) (hbits w′)) → SFits w z → toZ w′ (ofZ w′ (toZ w (ofZ w z))) ≡ z
+cast-read w′ t f = toZ-ofZ (cast-fits t f) ∙ toZ-ofZ f
 
 -- ---- tests of order, as a branch leaves them: of a′ and b′ as the code has them, which are a and b
 

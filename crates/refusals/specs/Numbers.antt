@@ -1,5 +1,7 @@
 -- Document 01, 'Where each number is checked': the number of each refusal, in the table's order.
 use Prim.Native.Nat.{ℕ}
+use Rattle.refusals.specs.declared.Answer.{Answer}
+use Rattle.refusals.specs.declared.Answer.the-variants.{Done, Refused}
 use Rattle.refusals.specs.declared.Refusal.{Refusal}
 use Rattle.refusals.specs.declared.Refusal.the-variants.{CoefficientCountOutOfRange, ModulusPartOutOfRange, ModulusPartsBothEven, SOutOfRange, TOutOfRange, BoundNotBelowNorm, WrongLength, FNotInItsSet, GNotInItsSet, PhiNotInItsSet, NotReducedModulo2, NotReducedModuloQ, NotInverseModulo2, NotInverseModuloQ, SpareBitSet, HeadTooShort, MarkNotEiz, VersionNotOne, KindNotWanted, ParametersDiffer, ModulusZero, ValueOutOfRange}
 
@@ -26,3 +28,8 @@ numberOf KindNotWanted = 19
 numberOf ParametersDiffer = 20
 numberOf ModulusZero = 21
 numberOf ValueOutOfRange = 22
+
+-- The number of an answer: 0 if nothing is refused.
+abbrev pub numberOfAnswer : Answer → ℕ
+numberOfAnswer Done = 0
+numberOfAnswer (Refused r) = numberOf r

@@ -25,7 +25,12 @@ unfoldable pub outcome : {A : Type 0} → List Check → A → Outcome A
 outcome [] a = done a
 outcome (c ∷ cs) a = unless (c .applies) (c .number) (outcome cs a)
 
--- "Every refusal returns its number alone and writes to no lent output": the number that a call returns, 0 if it refuses nothing, and what a lent output holds then that held `old`.
-unfoldable pub lent : {A : Type 0} → Outcome A → A → ℕ × A
-lent (done a) old = (0, a)
-lent (refused n) old = (n, old)
+-- "The refusal number (0 if none)."
+unfoldable pub number : {A : Type 0} → Outcome A → ℕ
+number (done a) = 0
+number (refused n) = n
+
+-- "Every refusal returns its number alone and writes to no lent output": what an output holds after a call, that held `old` before.
+unfoldable pub written : {A : Type 0} → Outcome A → A → A
+written (done a) old = a
+written (refused n) old = old

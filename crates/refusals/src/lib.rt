@@ -1,6 +1,6 @@
 // Document 01's refusals, each with its number. Which condition is tested where, and in what order, is in the crates of the calls.
 ghost use mathlib.Core.Path.{_≡_};
-ghost use Rattle.refusals.specs.Numbers.{numberOf};
+ghost use Rattle.refusals.specs.Numbers.{numberOf, numberOfAnswer};
 
 pub enum Refusal {
     CoefficientCountOutOfRange,
@@ -55,6 +55,24 @@ impl Refusal {
             Refusal::ParametersDiffer => 20,
             Refusal::ModulusZero => 21,
             Refusal::ValueOutOfRange => 22,
+        }
+    }
+}
+
+// What a call answers that writes its result to lent outputs.
+pub enum Answer {
+    Done,
+    Refused(Refusal),
+}
+
+impl Answer {
+    // Document 01's number, or 0 where nothing is refused.
+    pub fn number(self) -> u32
+        ensures { λ r. ⌜ r ≡ numberOfAnswer self ⌝ }
+    {
+        match self {
+            Answer::Done => 0,
+            Answer::Refused(refusal) => refusal.number(),
         }
     }
 }

@@ -29,14 +29,14 @@ abbrev s : tie.Start → ℤ[ω]
 s c = value (c .args .sa) (c .args .sb)
 
 -- what the two calls returned, as the tests read it
-m-read : (c : tie.After-norm2) → toZ w64 (ofZ w64 (c .before .norm .result)) ≡ pos (norm (r (c .before .before)))
+m-read : (c : tie.After-wide-norm2) → toZ w64 (ofZ w64 (c .before .wide-norm .result)) ≡ pos (norm (r (c .before .before)))
 m-read c =
-    toZ-ofZ (search needs) ∙ c .before .norm .ensures
+    toZ-ofZ (search needs) ∙ c .before .wide-norm .ensures
     ∙ ap₂ (λ (u v : ℤ). pos (norm (value u v))) (toZ-ofZ (c .before .before .fits .ra)) (toZ-ofZ (c .before .before .fits .rb))
 
-n-read : (c : tie.After-norm2) → toZ w64 (ofZ w64 (c .norm2 .result)) ≡ pos (norm (s (c .before .before)))
+n-read : (c : tie.After-wide-norm2) → toZ w64 (ofZ w64 (c .wide-norm2 .result)) ≡ pos (norm (s (c .before .before)))
 n-read c =
-    toZ-ofZ (search needs) ∙ c .norm2 .ensures
+    toZ-ofZ (search needs) ∙ c .wide-norm2 .ensures
     ∙ ap₂ (λ (u v : ℤ). pos (norm (value u v))) (toZ-ofZ (c .before .before .fits .sa)) (toZ-ofZ (c .before .before .fits .sb))
 
 -- the norms tie

@@ -1,17 +1,15 @@
 -- `reduce_q` meets its contract: each test is the definition's, and the remainder fits 32 bits.
 use mathlib.Core.Path.{_≡_, sym, _∙_, ap, ap₂, subst}
 use mathlib.Core.Bool.{true, false}
-use mathlib.Core.List.{List, [], _∷_}
 use mathlib.Core.Logic.{_≢_}
 use Prim.Native.Nat.{ℕ, _≤_, _^_}
 use lib.Dec.{T, lit<, lit≤}
 use lib.IntN.{ℤ, pos, natAbs}
-use lib.Signed.{ltZ-yes, natAbs-le}
+use lib.Signed.{ltZ-yes}
 use mir.Syntax.{w32, w64}
 use mir.Val.{toZ, ofZ, SFits}
 use mir.Facts.{toZ-ofZ}
-use Rattle.integers.proofs.Ring.{var}
-use Rattle.integers.proofs.Machine.{Leaf, given, widened, fits, exact, sfits-within}
+use Rattle.integers.proofs.Machine.{cast-fits, cast-read, sfits-within}
 use Rattle.refusals.specs.Outcomes.{done}
 use Rattle.refusals.proofs.Checks.{refused-by, passed, none-left}
 use Rattle.eisenstein.specs.Values.{ℤ[ω], value, 𝟘, same}
@@ -23,12 +21,6 @@ use Rattle.eisenstein.proofs.Remainders.{modQ-is-remainder, remainder-s
 use Rattle.eisenstein.proofs.reduce_q.Statement.{statement}
 use Rattle.eisenstein.proofs.reduce_q.Tie as tie
 
-abbrev ρ : tie.Start → List Leaf
-ρ c =
-    widened w32 (c .args .c) (2 ^ 31) (c .fits .c) (natAbs-le (c .args .c) (c .fits .c .sfits))
-    ∷ widened w32 (c .args .d) (2 ^ 31) (c .fits .d) (natAbs-le (c .args .d) (c .fits .d .sfits))
-    ∷ []
-
 abbrev q : tie.Start → ℤ[ω]
 q c = value (c .args .c) (c .args .d)
 
@@ -37,20 +29,20 @@ x c = value (c .args .a) (c .args .b)
 
 -- modulus and value as a callee is handed them
 q-read : (c : tie.Start) → value (toZ w64 (ofZ w64 (toZ w32 (ofZ w32 (c .args .c))))) (toZ w64 (ofZ w64 (toZ w32 (ofZ w32 (c .args .d))))) ≡ q c
-q-read c = ap₂ value (exact w64 (ρ c) (var 0) tt) (exact w64 (ρ c) (var 1) tt)
+q-read c = ap₂ value (cast-read w64 tt (c .fits .c)) (cast-read w64 tt (c .fits .d))
 
 x-read : (c : tie.Start) → value (toZ w64 (ofZ w64 (c .args .a))) (toZ w64 (ofZ w64 (c .args .b))) ≡ x c
 x-read c = ap₂ value (toZ-ofZ (c .fits .a)) (toZ-ofZ (c .fits .b))
 
 -- the three tests
-q-tested : (c : tie.After-beyond) → beyond 4095 (q (c .before)) ≡ c .beyond .result
-q-tested c = sym (ap (beyond 4095) (q-read (c .before))) ∙ sym (c .beyond .ensures)
+q-tested : (c : tie.After-modulus-out-of-range) → beyond 4095 (q (c .before)) ≡ c .modulus-out-of-range .result
+q-tested c = sym (c .modulus-out-of-range .ensures ∙ ap₂ (λ (u v : ℤ). beyond 4095 (value u v)) (toZ-ofZ (c .before .fits .c)) (toZ-ofZ (c .before .fits .d)))
 
 zero-tested : (c : tie.After-is-zero) → same (q (c .before .before .before)) 𝟘 ≡ c .is-zero .result
 zero-tested c = sym (ap (λ (y : ℤ[ω]). same y 𝟘) (q-read (c .before .before .before))) ∙ sym (c .is-zero .ensures)
 
-x-tested : (c : tie.After-beyond2) → beyond (2 ^ 40) (x (c .before .before .before .before .before)) ≡ c .beyond2 .result
-x-tested c = sym (ap (beyond (2 ^ 40)) (x-read (c .before .before .before .before .before))) ∙ sym (c .beyond2 .ensures)
+x-tested : (c : tie.After-beyond) → beyond (2 ^ 40) (x (c .before .before .before .before .before)) ≡ c .beyond .result
+x-tested c = sym (ap (beyond (2 ^ 40)) (x-read (c .before .before .before .before .before))) ∙ sym (c .beyond .ensures)
 
 -- what the tests leave, where all are passed
 record Passed (s : tie.Start) : Type 0 where
@@ -114,10 +106,10 @@ unfolding reduceQ
 reduce-q-spec =
     tie.close
     (tie.spec
-    (λ c. fits w64 (ρ c) (var 0) tt)
-    (λ c. fits w64 (ρ c) (var 1) tt)
-    (λ c κs. (ltZ-yes tt, lit≤ tt))
+    (λ c κs. tt)
     (λ c. sym (refused-by 2 _ _ (q-tested (c .before) ∙ c .if1 .taken)))
+    (λ c. cast-fits tt (c .before .before .fits .c))
+    (λ c. cast-fits tt (c .before .before .fits .d))
     (λ c κs. tt)
     (λ c. sym (passed 2 _ _ (q-tested (c .before .before .before) ∙ c .before .before .if1 .left) ∙ refused-by 21 _ _ (zero-tested (c .before) ∙ c .if2 .taken)))
     (λ c κs. (ltZ-yes tt, lit≤ tt))

@@ -36,6 +36,21 @@ x-read c = ap₂ value (exact w64 (ρ c) (var 0) tt) (exact w64 (ρ c) (var 1) t
 q-read : (c : tie.Start) → value (toZ w64 (ofZ w64 (c .args .c))) (toZ w64 (ofZ w64 (c .args .d))) ≡ q c
 q-read c = ap₂ value (exact w64 (ρ c) (var 2) tt) (exact w64 (ρ c) (var 3) tt)
 
+-- the first corner, as `best_corner` is handed it
+first-read : (c : tie.After-first-corner) → value (toZ w64 (ofZ w64 (c .first-corner .result .a))) (toZ w64 (ofZ w64 (c .first-corner .result .b))) ≡ corner (q (c .before .before)) (x (c .before .before)) 0 0
+first-read c =
+    let s = c .before .before in
+    let f = c .first-corner in
+    ap₂ value (toZ-ofZ (sfits-within (f .result .a) (f .ensures .1) (lit< tt))) (toZ-ofZ (sfits-within (f .result .b) (f .ensures .2) (lit< tt)))
+    ∙ f .ensures .0
+    ∙ ap₂ (λ (q x : ℤ[ω]). corner q x 0 0) (q-read s) (x-read s)
+
+returns : tie.Need-returns
+returns c =
+    c .best-corner .ensures
+    ∙ ap₂ (λ (r q : ℤ[ω]). best (best r (less10 q r)) (best (less01 q r) (less11 q r))) (first-read (c .before .before .before)) (q-read (c .before .before .before .before .before))
+    ∙ best-corner-is (q (c .before .before .before .before .before)) (x (c .before .before .before .before .before))
+
 pub remainder-spec : {M : Type 1} → statement M
 remainder-spec =
     tie.close
@@ -48,15 +63,7 @@ remainder-spec =
       size-read w64 (ρ s) (var 2) 4095 tt tt,
       size-read w64 (ρ s) (var 3) 4095 tt tt,
       (λ e. s .pre .4 (sym (q-read s) ∙ e)),
-      toZ-ofZ (search needs) ∙ c .norm .ensures,
+      toZ-ofZ (search needs) ∙ c .wide-norm .ensures,
     ))
     (λ c κs. search needs)
-    (λ c.
-    let s = c .before .before .before .before .before in
-    let f = c .before .before .before .first-corner in
-    c .best-corner .ensures
-    ∙ ap₂ (λ (r q : ℤ[ω]). best (best r (less10 q r)) (best (less01 q r) (less11 q r)))
-    (ap₂ value (toZ-ofZ (sfits-within (f .result .a) (f .ensures .1) (lit< tt))) (toZ-ofZ (sfits-within (f .result .b) (f .ensures .2) (lit< tt)))
-    ∙ f .ensures .0 ∙ ap₂ (λ (q x : ℤ[ω]). corner q x 0 0) (q-read s) (x-read s))
-    (q-read s)
-    ∙ best-corner-is (q s) (x s)))
+    returns)
