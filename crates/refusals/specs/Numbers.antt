@@ -1,5 +1,6 @@
 -- Document 01, 'Where each number is checked': the number of each refusal, in the table's order.
 use Prim.Native.Nat.{ℕ}
+use Rattle.refusals.specs.Outcomes.{Outcome, done, refused}
 use Rattle.refusals.specs.declared.Answer.{Answer}
 use Rattle.refusals.specs.declared.Answer.the-variants.{Done, Refused}
 use Rattle.refusals.specs.declared.Refusal.{Refusal}
@@ -29,7 +30,7 @@ numberOf ParametersDiffer = 20
 numberOf ModulusZero = 21
 numberOf ValueOutOfRange = 22
 
--- The number of an answer: 0 if nothing is refused.
-abbrev pub numberOfAnswer : Answer → ℕ
-numberOfAnswer Done = 0
-numberOfAnswer (Refused r) = numberOf r
+-- An answer that carries no value, as an outcome.
+abbrev pub answered : Answer → Outcome (Unit {0})
+answered Done = done tt
+answered (Refused r) = refused (numberOf r)

@@ -26,11 +26,11 @@ outcome [] a = done a
 outcome (c ∷ cs) a = unless (c .applies) (c .number) (outcome cs a)
 
 -- "The refusal number (0 if none)."
-unfoldable pub number : {A : Type 0} → Outcome A → ℕ
+abbrev pub number : {A : Type 0} → Outcome A → ℕ
 number (done a) = 0
 number (refused n) = n
 
 -- "Every refusal returns its number alone and writes to no lent output": what an output holds after a call, that held `old` before.
-unfoldable pub written : {A : Type 0} → Outcome A → A → A
+abbrev pub written : {A : Type 0} → Outcome A → A → A
 written (done a) old = a
 written (refused n) old = old

@@ -1,6 +1,7 @@
 // Document 01's refusals, each with its number. Which condition is tested where, and in what order, is in the crates of the calls.
 ghost use mathlib.Core.Path.{_≡_};
-ghost use Rattle.refusals.specs.Numbers.{numberOf, numberOfAnswer};
+ghost use Rattle.refusals.specs.Numbers.{numberOf, answered};
+ghost use Rattle.refusals.specs.Outcomes.{number};
 
 pub enum Refusal {
     CoefficientCountOutOfRange,
@@ -68,7 +69,7 @@ pub enum Answer {
 impl Answer {
     // Document 01's number, or 0 where nothing is refused.
     pub fn number(self) -> u32
-        ensures { λ r. ⌜ r ≡ numberOfAnswer self ⌝ }
+        ensures { λ r. ⌜ r ≡ number (answered self) ⌝ }
     {
         match self {
             Answer::Done => 0,

@@ -1,7 +1,9 @@
 -- `Answer::number` meets its contract.
 use mathlib.Core.Path.{sym, _∙_, ap}
 use borrow.Author.Needs.{needs}
-use Rattle.refusals.specs.Numbers.{numberOf, numberOfAnswer}
+use Rattle.refusals.specs.Numbers.{answered}
+use Rattle.refusals.specs.Outcomes.{number}
+use Rattle.refusals.specs.declared.Answer.{Answer}
 use Rattle.refusals.proofs.Answer.number.Statement.{statement}
 use Rattle.refusals.proofs.Answer.number.Tie as tie
 
@@ -13,4 +15,4 @@ number-spec =
     (λ c. search needs)
     (λ c κs. search needs)
     (λ c. search needs)
-    (λ c. c .number .ensures ∙ sym (ap numberOfAnswer (c .before .before .self .given .1))))
+    (λ c. c .number .ensures ∙ sym (ap (λ (a : Answer). number (answered a)) (c .before .before .self .given .1))))
