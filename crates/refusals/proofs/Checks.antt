@@ -4,7 +4,7 @@ use mathlib.Core.Path.{_≡_, refl, sym, _∙_, ap}
 use mathlib.Core.Bool.{Bool, true, false}
 use mathlib.Core.List.{List, [], _∷_}
 use Prim.Native.Nat.{ℕ}
-use Rattle.refusals.specs.Outcomes.{Check, _if_, Outcome, done, refused, unless, outcome}
+use Rattle.refusals.specs.Outcomes.{Check, _if_, Outcome, done, refused, unless, outcome, number}
 
 pub refused-by : {A : Type 0} (n : ℕ) (cs : List Check) (a : A) {t : Bool} → t ≡ true → outcome (n if t ∷ cs) a ≡ refused n
 unfolding outcome
@@ -41,3 +41,12 @@ pub outcome-carried : {A B : Type 0} (f : A → B) (cs : List Check) (a : A) →
 unfolding outcome carried
 outcome-carried f [] a = refl
 outcome-carried f (c ∷ cs) a = ap (unless (c .applies) (c .number)) (outcome-carried f cs a) ∙ sym (carried-unless f (c .applies) (c .number) (outcome cs a))
+
+number-carried : {A B : Type 0} (f : A → B) (o : Outcome A) → number (carried f o) ≡ number o
+unfolding carried
+number-carried f (done a) = refl
+number-carried f (refused n) = refl
+
+-- so the number is the same whatever the value
+pub same-number : {A B : Type 0} (cs : List Check) (a : A) (b : B) → number (outcome cs a) ≡ number (outcome cs b)
+same-number cs a b = sym (ap number (outcome-carried (λ _. b) cs a) ∙ number-carried (λ _. b) (outcome cs a))

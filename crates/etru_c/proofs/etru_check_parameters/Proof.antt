@@ -1,0 +1,26 @@
+-- `etru_check_parameters` meets its contract.
+use mathlib.Core.Path.{_≡_, _∙_, sym, ap, ap₂}
+use mathlib.Core.List.{List}
+use Prim.Native.Nat.{ℕ}
+use lib.IntN.{ℤ}
+use mir.Facts.{toZ-ofZ}
+use Rattle.refusals.specs.Outcomes.{Check, Outcome, number, outcome}
+use Rattle.refusals.specs.Numbers.{answered}
+use Rattle.refusals.proofs.Checks.{same-number}
+use Rattle.parameters.specs.Sets.{set, parameterChecks, parameters}
+use Rattle.etru_c.proofs.etru_check_parameters.Statement.{statement}
+use Rattle.etru_c.proofs.etru_check_parameters.Tie as tie
+
+pub etru-check-parameters-spec : {M : Type 1} → statement M
+unfolding parameters
+etru-check-parameters-spec =
+    tie.close
+    (tie.spec
+    (λ c κs. tt)
+    (λ c κs. tt)
+    (λ c.
+    let s = c .before .before in
+    c .number .ensures
+    ∙ ap number (c .before .check .ensures)
+    ∙ ap₂ (λ (u v : ℤ). number (outcome (parameterChecks (set (s .args .n) u v (s .args .s) (s .args .t))) tt)) (toZ-ofZ (s .fits .c)) (toZ-ofZ (s .fits .d))
+    ∙ same-number (parameterChecks (set (s .args .n) (s .args .c) (s .args .d) (s .args .s) (s .args .t))) tt _))
