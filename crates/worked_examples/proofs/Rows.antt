@@ -1,0 +1,81 @@
+-- The rows hold: each is computed from the definitions.
+use mathlib.Core.Path.{_≡_, refl, subst}
+use mathlib.Core.Bool.{not}
+use lib.Dec.{T}
+use lib.IntN.{pos, negsuc}
+use mir.Facts.{T-not}
+use Rattle.refusals.specs.Outcomes.{outcome}
+use Rattle.eisenstein.specs.Values.{ℤ[ω], value, 𝟘, norm, same, sameℤ, _+ω_, _-ω_, _*ω_}
+use Rattle.eisenstein.specs.Reduction.{Remainder, modQ, mod2, bit, cell, corner, better, best}
+use Rattle.eisenstein.specs.Calls.{beyond}
+use Rattle.eisenstein.proofs.Equality.{same-yes, same-true}
+use Rattle.eisenstein.proofs.Remainders.{modQ-is-remainder}
+use Rattle.parameters.specs.Sets.{outside, even, bound, parameterChecks, parameters}
+use Rattle.worked_examples.specs.Rows.{Rows-hold}
+
+-- a remainder, computed by `modQ`
+computed : (q x r : ℤ[ω]) → T (not (same q 𝟘)) → T (same (modQ q x) r) → Remainder q x r
+computed q x r h t =
+    subst (Remainder q x) (same-yes (modQ q x) r t)
+    (modQ-is-remainder q x (λ e. T-not (same q 𝟘) (subst T (mathlib.Core.Path.sym (same-true e)) tt) h))
+
+pub rows-hold : Rows-hold
+unfolding modQ mod2 bit cell corner better best _+ω_ _-ω_ _*ω_ norm same sameℤ beyond outside even bound parameterChecks parameters outcome
+rows-hold = (
+  computed _ _ _ tt tt,
+  (
+    refl,
+    (
+      refl,
+      (
+        refl,
+        (
+          computed _ _ _ tt tt,
+          (
+            computed _ _ _ tt tt,
+            (
+              refl,
+              (
+                refl,
+                (
+                  computed _ _ _ tt tt,
+                  (
+                    computed _ _ _ tt tt,
+                    (
+                      refl,
+                      (
+                        refl,
+                        (
+                          refl,
+                          (
+                            refl,
+                            (
+                              refl,
+                              (
+                                refl,
+                                (
+                                  refl,
+                                  (
+                                    refl,
+                                    (
+                                      refl,
+                                      tt,
+                                    ),
+                                  ),
+                                ),
+                              ),
+                            ),
+                          ),
+                        ),
+                      ),
+                    ),
+                  ),
+                ),
+              ),
+            ),
+          ),
+        ),
+      ),
+    ),
+  ),
+)

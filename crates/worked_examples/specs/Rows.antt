@@ -1,0 +1,59 @@
+-- Document 01, 'Small keys and remainders': the lines marked ◆, as rows under one statement.
+use mathlib.Core.Path.{_≡_}
+use mathlib.Core.List.{List, [], _∷_}
+use Prim.Native.Nat.{ℕ}
+use lib.IntN.{pos, negsuc}
+use Rattle.refusals.specs.Outcomes.{number}
+use Rattle.eisenstein.specs.Values.{ℤ[ω], value, norm}
+use Rattle.eisenstein.specs.Reduction.{Remainder, mod2}
+use Rattle.parameters.specs.Sets.{ParameterSet, set, bound, parameters}
+
+pub data Row : Type 0 where
+  remainder : (q x r : ℤ[ω]) → Row  -- x modulo q is r
+  remainder-2 : (x r : ℤ[ω]) → Row  -- x modulo 2 is r
+  norm-is : (x : ℤ[ω]) → ℕ → Row
+  refusal : ParameterSet → ℕ → Row  -- the set meets this refusal; 0: it is accepted
+  bound-is : ParameterSet → ℕ → Row  -- 4 × (2s + t)²
+
+abbrev pub Holds : Row → Type 0
+Holds (remainder q x r) = Remainder q x r
+Holds (remainder-2 x r) = mod2 x ≡ r
+Holds (norm-is x n) = norm x ≡ n
+Holds (refusal p n) = number (parameters p) ≡ n
+Holds (bound-is p n) = bound p ≡ n
+
+abbrev pub All : List Row → Type 0
+All [] = Unit {0}
+All (r ∷ rs) = Holds r × All rs
+
+abbrev pub rows : List Row
+rows =
+    -- "(1,−1) modulo 3 is (1,2): three values share norm 3."
+    remainder (value (pos 3) (pos 0)) (value (pos 1) (negsuc 0)) (value (pos 1) (pos 2))
+    ∷ norm-is (value (pos 1) (pos 2)) 3
+    ∷ norm-is (value (pos 1) (negsuc 0)) 3
+    ∷ norm-is (value (negsuc 1) (negsuc 0)) 3
+    -- "(7,8) modulo 15 is (7,8), norm 57; (−8,−7) ties and loses."
+    ∷ remainder (value (pos 15) (pos 0)) (value (pos 7) (pos 8)) (value (pos 7) (pos 8))
+    ∷ remainder (value (pos 15) (pos 0)) (value (negsuc 7) (negsuc 6)) (value (pos 7) (pos 8))
+    ∷ norm-is (value (pos 7) (pos 8)) 57
+    ∷ norm-is (value (negsuc 7) (negsuc 6)) 57
+    -- "7 modulo 15 is 7." "8 modulo 15 is −7."
+    ∷ remainder (value (pos 15) (pos 0)) (value (pos 7) (pos 0)) (value (pos 7) (pos 0))
+    ∷ remainder (value (pos 15) (pos 0)) (value (pos 8) (pos 0)) (value (negsuc 6) (pos 0))
+    -- "(1,1) modulo 2 is (−1,−1)." "(−1,0) modulo 2 is (1,0)."
+    ∷ remainder-2 (value (pos 1) (pos 1)) (value (negsuc 0) (negsuc 0))
+    ∷ remainder-2 (value (negsuc 0) (pos 0)) (value (pos 1) (pos 0))
+    -- "Norm of (11,86) is 6,571." "Norm of (0,81) is 6,561."
+    ∷ norm-is (value (pos 11) (pos 86)) 6571
+    ∷ norm-is (value (pos 0) (pos 81)) 6561
+    -- "N = 3, q = 15, s = 3, t = 1: accepted, 196 below 225." "t = 2: refusal 6, 256."
+    ∷ refusal (set 3 (pos 15) (pos 0) 3 1) 0
+    ∷ bound-is (set 3 (pos 15) (pos 0) 3 1) 196
+    ∷ norm-is (value (pos 15) (pos 0)) 225
+    ∷ refusal (set 3 (pos 15) (pos 0) 3 2) 6
+    ∷ bound-is (set 3 (pos 15) (pos 0) 3 2) 256
+    ∷ []
+
+abbrev pub Rows-hold : Type 0
+Rows-hold = All rows

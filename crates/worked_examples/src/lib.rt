@@ -1,0 +1,1 @@
+// Document 01's worked examples, proved of the definitions. Statements and proofs only: see specs/ and proofs/.
