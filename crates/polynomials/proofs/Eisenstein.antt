@@ -1,0 +1,77 @@
+-- Z[ω] as a ring, its classes modulo q as a congruence, and the definitions' sums and convolution as those of the algebra.
+use mathlib.Core.Path.{_≡_, refl, sym, _∙_, ap, ap₂}
+use Prim.Native.Nat.{ℕ, zero, suc}
+use lib.IntN.{pos}
+use Rattle.eisenstein.specs.Values.{ℤ[ω], value, 𝟘, _+ω_, _-ω_, _*ω_, Congruent}
+use Rattle.eisenstein.proofs.Solver.{ringω, _≐_, _⊞_, _⊟_, _⊠_, conω}
+use Rattle.eisenstein.proofs.Laws.{+ω-assoc, +ω-comm, +ω-zero, *ω-assoc, *ω-comm, *ω-zero, *ω-+ω, congruent-refl, congruent-sym, congruent-trans}
+use Rattle.polynomials.specs.Polynomials.{Polynomial, sum, convolution, one}
+use Rattle.polynomials.proofs.Rings.{Ring, Congruence}
+use Rattle.polynomials.proofs.Sums.{total, total-same}
+use Rattle.polynomials.proofs.Convolutions.{conv, unit}
+use Rattle.polynomials.proofs.Cyclic.{cyclic}
+
+pub *ω-one : (x : ℤ[ω]) → x *ω value (pos 1) (pos 0) ≡ x
+unfolding _*ω_
+*ω-one = ringω 1 (λ x. x ⊠ conω (value (pos 1) (pos 0)) ≐ x) tt
+
+abbrev pub ring : Ring ℤ[ω]
+ring = record {
+  zero = 𝟘;
+  one = value (pos 1) (pos 0);
+  add = _+ω_;
+  mul = _*ω_;
+  add-assoc = +ω-assoc;
+  add-comm = +ω-comm;
+  add-zero = +ω-zero;
+  mul-assoc = *ω-assoc;
+  mul-comm = *ω-comm;
+  mul-one = *ω-one;
+  mul-zero = *ω-zero;
+  mul-add = *ω-+ω;
+}
+
+adds-step : (q x y u v : ℤ[ω]) → (x +ω q *ω u) +ω (y +ω q *ω v) ≡ (x +ω y) +ω q *ω (u +ω v)
+unfolding _+ω_ _*ω_
+adds-step = ringω 5 (λ q x y u v. (x ⊞ q ⊠ u) ⊞ (y ⊞ q ⊠ v) ≐ (x ⊞ y) ⊞ q ⊠ (u ⊞ v)) tt
+
+multiplies-step : (q x y u v : ℤ[ω]) → (x +ω q *ω u) *ω (y +ω q *ω v) ≡ (x *ω y) +ω q *ω ((x *ω v +ω u *ω y) +ω q *ω (u *ω v))
+unfolding _+ω_ _*ω_
+multiplies-step =
+    ringω 5 (λ q x y u v. (x ⊞ q ⊠ u) ⊠ (y ⊞ q ⊠ v) ≐ x ⊠ y ⊞ q ⊠ (x ⊠ v ⊞ u ⊠ y ⊞ q ⊠ (u ⊠ v))) tt
+
+pub congruent-add : {q x x′ y y′ : ℤ[ω]} → Congruent q x x′ → Congruent q y y′ → Congruent q (x +ω y) (x′ +ω y′)
+congruent-add {q} {x} {x′} {y} {y′} c d = record {
+  quotient = c .quotient +ω d .quotient;
+  equation = ap₂ _+ω_ (c .equation) (d .equation) ∙ adds-step q x′ y′ (c .quotient) (d .quotient);
+}
+
+pub congruent-mul : {q x x′ y y′ : ℤ[ω]} → Congruent q x x′ → Congruent q y y′ → Congruent q (x *ω y) (x′ *ω y′)
+congruent-mul {q} {x} {x′} {y} {y′} c d = record {
+  quotient = (x′ *ω d .quotient +ω c .quotient *ω y′) +ω q *ω (c .quotient *ω d .quotient);
+  equation = ap₂ _*ω_ (c .equation) (d .equation) ∙ multiplies-step q x′ y′ (c .quotient) (d .quotient);
+}
+
+pub modulo : (q : ℤ[ω]) → Congruence ring (Congruent q)
+modulo q = record {
+  reflexive = congruent-refl q;
+  symmetric = λ c. congruent-sym c;
+  transitive = λ c d. congruent-trans c d;
+  adds = λ c d. congruent-add c d;
+  multiplies = λ c d. congruent-mul c d;
+}
+
+-- ---- the definitions are the algebra's
+
+pub sum-is : (n : ℕ) (x : Polynomial) → sum n x ≡ total ring n x
+unfolding sum total
+sum-is zero x = refl
+sum-is (suc n) x = ap (λ (y : ℤ[ω]). y +ω x n) (sum-is n x)
+
+pub convolution-is : (N : ℕ) (x y : Polynomial) (i : ℕ) → convolution N x y i ≡ conv ring (cyclic N) x y i
+unfolding convolution conv
+convolution-is N x y i = sum-is N _ ∙ total-same ring N (λ j l. sum-is N _)
+
+pub one-is : (i : ℕ) → one i ≡ unit ring i
+unfolding one unit
+one-is i = refl

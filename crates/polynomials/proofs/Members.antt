@@ -1,0 +1,132 @@
+-- What membership in the sets of f, g and φ tells of a polynomial, and being reduced: each coefficient's norm is at most 1, and a product with such a polynomial is bounded by its count of units.
+use mathlib.Core.Path.{_≡_, refl, sym, _∙_, ap, ap₂, subst}
+use mathlib.Core.Bool.{Bool, true, false, not, cond, _&&_, _||_}
+use mathlib.Core.List.{List, [], _∷_}
+use mathlib.Core.Logic.{_⊎_, inl, inr, ⊎-elim}
+use Prim.Native.Nat.{ℕ, zero, suc, _+_, _-_, _*_, _%_, _≤_, _<_}
+use native.Mathlib.Omega.{arith}
+use native.Mathlib.Decide.{ℕ-discrete}
+use native.Mathlib.Nat.{one-mul, zero-mul, mod-lt}
+use borrow.Author.Tests.{not-false}
+use lib.Dec.{T, eqb, eqb→eq, leb, leb→le}
+use lib.IntN.{pos, negsuc}
+use mir.Facts.{and-yes, or-yes}
+use Rattle.eisenstein.specs.Values.{ℤ[ω], value, 𝟘, units, norm, _*ω_, same}
+use Rattle.eisenstein.specs.Reduction.{modQ, mod2, bit}
+use Rattle.eisenstein.proofs.Laws.{*ω-zero, *ω-comm}
+use Rattle.eisenstein.proofs.Equality.{same-yes}
+use Rattle.eisenstein.proofs.Modulo2.{by-bits, mod2-by-bits}
+use Rattle.polynomials.specs.Polynomials.{Polynomial, all, count, nonzero, among, unitsOnly, unitsOfSumZero, reducedQ, reduced2, sum, convolution}
+use Rattle.polynomials.proofs.Sums.{total}
+use Rattle.polynomials.proofs.Convolutions.{conv-single}
+use Rattle.polynomials.proofs.Cyclic.{cyclic}
+use Rattle.polynomials.proofs.Eisenstein.{ring, convolution-is}
+use Rattle.polynomials.proofs.Bounds.{Within, within-zero, within-mul, within-total}
+
+norm-small : (u v : Bool) → T (leb (norm (by-bits u v)) 1)
+unfolding norm
+norm-small true true = tt
+norm-small true false = tt
+norm-small false true = tt
+norm-small false false = tt
+
+-- ---- a test of every index
+
+pub all-at : (n : ℕ) (t : ℕ → Bool) → T (all n t) → (i : ℕ) → i < n → T (t i)
+unfolding all
+all-at zero t h i l = absurd (omega arith)
+all-at (suc n) t h i l = go (ℕ-discrete i n) (all-at n t (and-yes (all n t) (t n) h .0) i)
+  where
+    go : Dec (i ≡ n) → (i < n → T (t i)) → T (t i)
+    go (yes e) r = subst (λ (k : ℕ). T (t k)) (sym e) (and-yes (all n t) (t n) h .1)
+    go (no e) r = r (omega arith)
+
+-- ---- units
+
+ones : List ℤ[ω] → Bool
+ones [] = true
+ones (u ∷ us) = eqb (norm u) 1 && ones us
+
+among-norm : (us : List ℤ[ω]) (x : ℤ[ω]) → T (ones us) → T (among us x) → norm x ≡ 1
+unfolding among ones
+among-norm [] x h t = absurd t
+among-norm (u ∷ us) x h t =
+    ⊎-elim (λ e. ap norm (same-yes x u e) ∙ eqb→eq (norm u) 1 (and-yes (eqb (norm u) 1) (ones us) h .0))
+    (λ m. among-norm us x (and-yes (eqb (norm u) 1) (ones us) h .1) m)
+    (or-yes (same x u) (among us x) t)
+
+pub unit-norm : (x : ℤ[ω]) → T (among units x) → norm x ≡ 1
+unfolding ones norm
+unit-norm x t = among-norm units x tt t
+
+-- a coefficient of such a polynomial: zero, or a unit
+zero-or-unit : (x : ℤ[ω]) (c : Bool) → nonzero x ≡ c → T (not c || among units x) → Within (cond c 1 0) x
+unfolding nonzero
+zero-or-unit x true e t = record { within = omega (arith, unit-norm x t) }
+zero-or-unit x false e t =
+    subst (Within 0) (sym (same-yes x 𝟘 (subst T (sym (not-false (same x 𝟘) e)) tt))) within-zero
+
+pub unit-or-zero : (N t : ℕ) (x : Polynomial) → T (unitsOnly N t x) → (i : ℕ) → i < N → Within (cond (nonzero (x i)) 1 0) (x i)
+unfolding unitsOnly
+unit-or-zero N t x h i l =
+    zero-or-unit (x i) (nonzero (x i)) refl
+    (all-at N (λ i. not (nonzero (x i)) || among units (x i)) (and-yes (eqb (count N (λ i. nonzero (x i))) t) _ h .1) i l)
+
+pub units-within : (N t : ℕ) (x : Polynomial) → T (unitsOnly N t x) → (i : ℕ) → i < N → Within 1 (x i)
+units-within N t x h i l = go (nonzero (x i)) (unit-or-zero N t x h i l)
+  where
+    go : (c : Bool) → Within (cond c 1 0) (x i) → Within 1 (x i)
+    go true w = w
+    go false w = record { within = omega (arith, w .within) }
+
+pub units-count : (N t : ℕ) (x : Polynomial) → T (unitsOnly N t x) → count N (λ i. nonzero (x i)) ≡ t
+unfolding unitsOnly
+units-count N t x h = eqb→eq _ t (and-yes (eqb (count N (λ i. nonzero (x i))) t) _ h .0)
+
+pub sum-zero-units : (N s : ℕ) (x : Polynomial) → T (unitsOfSumZero N s x) → T (unitsOnly N s x)
+unfolding unitsOfSumZero
+sum-zero-units N s x h = and-yes (unitsOnly N s x) (same (sum N x) 𝟘) h .0
+
+-- ---- reduced: each coefficient is its own remainder
+
+pub reducedQ-at : (N : ℕ) (q : ℤ[ω]) (x : Polynomial) → T (reducedQ N q x) → (i : ℕ) → i < N → modQ q (x i) ≡ x i
+unfolding reducedQ
+reducedQ-at N q x h i l = same-yes (modQ q (x i)) (x i) (all-at N (λ i. same (modQ q (x i)) (x i)) h i l)
+
+pub reduced2-at : (N : ℕ) (x : Polynomial) → T (reduced2 N x) → (i : ℕ) → i < N → mod2 (x i) ≡ x i
+unfolding reduced2
+reduced2-at N x h i l = same-yes (mod2 (x i)) (x i) (all-at N (λ i. same (mod2 (x i)) (x i)) h i l)
+
+pub mod2-within : (x : ℤ[ω]) → Within 1 (mod2 x)
+mod2-within x = subst (Within 1) (sym (mod2-by-bits x)) (go (eqb (bit (x .a)) 1) (eqb (bit (x .b)) 1))
+  where
+    small : (y : ℤ[ω]) → T (leb (norm y) 1) → Within 1 y
+    small y t = record { within = leb→le (norm y) 1 t }
+
+    go : (u v : Bool) → Within 1 (by-bits u v)
+    go true true = small (by-bits true true) (norm-small true true)
+    go true false = small (by-bits true false) (norm-small true false)
+    go false true = small (by-bits false true) (norm-small false true)
+    go false false = small (by-bits false false) (norm-small false false)
+
+pub reduced2-within : (N : ℕ) (x : Polynomial) → T (reduced2 N x) → (i : ℕ) → i < N → Within 1 (x i)
+reduced2-within N x h i l = subst (Within 1) (reduced2-at N x h i l) (mod2-within (x i))
+
+-- ---- a product with t units
+
+pub convolution-within : (N t b : ℕ) (x y : Polynomial) → T (unitsOnly N t x) → ((k : ℕ) → k < N → Within b (y k)) → (i : ℕ) → i < N → Within (t * b) (convolution N x y i)
+convolution-within N t b x y h k i l =
+    subst (Within (t * b)) (sym (convolution-is N x y i ∙ conv-single ring (cyclic N) x y i l))
+    (subst (λ (m : ℕ). Within (m * b) (total ring N terms)) (units-count N t x h) (within-total N b (λ j. nonzero (x j)) terms term))
+  where
+    terms : ℕ → ℤ[ω]
+    terms j = x j *ω y ((i + (N - j)) % N)
+
+    scaled : (c : Bool) → cond c 1 0 * b ≡ cond c b 0
+    scaled true = one-mul b
+    scaled false = zero-mul b
+
+    term : (j : ℕ) → j < N → Within (cond (nonzero (x j)) b 0) (x j *ω y ((i + (N - j)) % N))
+    term j m =
+        subst (λ (w : ℕ). Within w (x j *ω y ((i + (N - j)) % N))) (scaled (nonzero (x j)))
+        (within-mul (cond (nonzero (x j)) 1 0) b (unit-or-zero N t x h j m) (k ((i + (N - j)) % N) (mod-lt (i + (N - j)) (omega arith))))

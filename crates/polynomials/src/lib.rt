@@ -1,0 +1,1 @@
+// Polynomials of N coefficients of Z[ω], modulo X^N − 1.
