@@ -10,7 +10,7 @@ use native.Mathlib.Nat.{one-mul, zero-mul, mod-lt}
 use borrow.Author.Tests.{not-false}
 use lib.Dec.{T, eqb, eqb→eq, leb, leb→le}
 use lib.IntN.{pos, negsuc}
-use mir.Facts.{and-yes, or-yes}
+use mir.Facts.{and-yes, yes-and, or-yes}
 use Rattle.eisenstein.specs.Values.{ℤ[ω], value, 𝟘, units, norm, _*ω_, same}
 use Rattle.eisenstein.specs.Reduction.{modQ, mod2, bit}
 use Rattle.eisenstein.proofs.Laws.{*ω-zero, *ω-comm}
@@ -40,6 +40,11 @@ all-at (suc n) t h i l = go (ℕ-discrete i n) (all-at n t (and-yes (all n t) (t
     go : Dec (i ≡ n) → (i < n → T (t i)) → T (t i)
     go (yes e) r = subst (λ (k : ℕ). T (t k)) (sym e) (and-yes (all n t) (t n) h .1)
     go (no e) r = r (omega arith)
+
+pub at-all : (n : ℕ) (t : ℕ → Bool) → ((i : ℕ) → i < n → T (t i)) → T (all n t)
+unfolding all
+at-all zero t h = tt
+at-all (suc n) t h = yes-and (all n t) (t n) (at-all n t (λ i l. h i (omega arith))) (h n (omega arith))
 
 -- ---- units
 

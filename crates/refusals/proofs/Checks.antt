@@ -1,9 +1,12 @@
 -- An outcome, check by check: one that applies refuses, and one that does not is passed.
 -- One use: `passed 2 _ _ e ∙ refused-by 21 _ _ f : outcome (2 if s ∷ 21 if t ∷ []) a ≡ refused 21`, for `e : s ≡ false` and `f : t ≡ true`.
-use mathlib.Core.Path.{_≡_, refl, sym, _∙_, ap}
-use mathlib.Core.Bool.{Bool, true, false}
-use mathlib.Core.List.{List, [], _∷_}
+use mathlib.Core.Path.{_≡_, refl, sym, _∙_, ap, subst}
+use mathlib.Core.Bool.{Bool, true, false, not}
+use mathlib.Core.List.{List, [], _∷_, _++_}
 use Prim.Native.Nat.{ℕ}
+use native.Mathlib.Omega.{arith}
+use borrow.Author.Tests.{not-false}
+use lib.Dec.{T}
 use Rattle.refusals.specs.Outcomes.{Check, _if_, Outcome, done, refused, unless, outcome, number}
 
 pub refused-by : {A : Type 0} (n : ℕ) (cs : List Check) (a : A) {t : Bool} → t ≡ true → outcome (n if t ∷ cs) a ≡ refused n
@@ -17,6 +20,66 @@ passed n cs a e = ap (λ (t : Bool). unless t n (outcome cs a)) e
 pub none-left : {A : Type 0} (a : A) → outcome [] a ≡ done a
 unfolding outcome
 none-left a = refl
+
+-- ---- what is done has passed every check
+
+never-done : {A : Type 0} (n : ℕ) (a : A) → refused n ≡ done a → ⊥
+never-done n a e = let z : _≡_ {A = ℕ} 0 1 = cc in omega arith
+
+unless-done : {A : Type 0} (t : Bool) (n : ℕ) (o : Outcome A) (a : A) → unless t n o ≡ done a → (t ≡ false) × (o ≡ done a)
+unless-done true n o a e = absurd (never-done n a e)
+unless-done false n o a e = (refl, e)
+
+pub done-passed : {A : Type 0} (n : ℕ) (t : Bool) (cs : List Check) (a b : A) → outcome (n if t ∷ cs) a ≡ done b → (t ≡ false) × (outcome cs a ≡ done b)
+unfolding outcome
+done-passed n t cs a b e = unless-done t n (outcome cs a) b e
+
+pub done-value : {A : Type 0} (a b : A) → outcome [] a ≡ done b → a ≡ b
+unfolding outcome
+done-value a b e = cc
+
+-- ---- checks of what must hold: they apply where a test fails
+
+pub holds-passed : {A : Type 0} (n : ℕ) (t : Bool) (cs : List Check) (a : A) → T t → outcome (n if not t ∷ cs) a ≡ outcome cs a
+holds-passed n t cs a h = passed n cs a (negated t h)
+  where
+    negated : (t : Bool) → T t → not t ≡ false
+    negated true h = refl
+    negated false h = absurd h
+
+pub fails-refused : {A : Type 0} (n : ℕ) (t : Bool) (cs : List Check) (a : A) → t ≡ false → outcome (n if not t ∷ cs) a ≡ refused n
+fails-refused n t cs a e = refused-by n cs a (ap not e)
+
+pub done-holds : {A : Type 0} (n : ℕ) (t : Bool) (cs : List Check) (a b : A) → outcome (n if not t ∷ cs) a ≡ done b → T t × (outcome cs a ≡ done b)
+done-holds n t cs a b e =
+    let p = done-passed n (not t) cs a b e in
+    (subst T (sym (not-false t (p .0))) tt, p .1)
+
+-- ---- checks one after another
+
+pub passed-all : {A : Type 0} (cs ds : List Check) (a : A) → outcome cs (tt {0}) ≡ done (tt {0}) → outcome (cs ++ ds) a ≡ outcome ds a
+unfolding outcome
+passed-all [] ds a e = refl
+passed-all (c ∷ cs) ds a e =
+    let p = unless-done (c .applies) (c .number) (outcome cs (tt {0})) (tt {0}) e in
+    ap (λ (t : Bool). unless t (c .number) (outcome (cs ++ ds) a)) (p .0) ∙ passed-all cs ds a (p .1)
+
+pub refused-first : {A : Type 0} (cs ds : List Check) (a : A) (n : ℕ) → outcome cs (tt {0}) ≡ refused n → outcome (cs ++ ds) a ≡ refused n
+unfolding outcome
+refused-first [] ds a n e = absurd (never-done n (tt {0}) (sym e))
+refused-first (c ∷ cs) ds a n e = go (c .applies) (λ h. refused-first cs ds a n h) e
+  where
+    go : (t : Bool) → (outcome cs (tt {0}) ≡ refused n → outcome (cs ++ ds) a ≡ refused n) → unless t (c .number) (outcome cs (tt {0})) ≡ refused n → unless t (c .number) (outcome (cs ++ ds) a) ≡ refused n
+    go true r h = cc
+    go false r h = r h
+
+pub done-all : {A : Type 0} (cs ds : List Check) (a b : A) → outcome (cs ++ ds) a ≡ done b → (outcome cs (tt {0}) ≡ done (tt {0})) × (outcome ds a ≡ done b)
+unfolding outcome
+done-all [] ds a b e = (refl, e)
+done-all (c ∷ cs) ds a b e =
+    let p = unless-done (c .applies) (c .number) (outcome (cs ++ ds) a) b e in
+    let q = done-all cs ds a b (p .1) in
+    (ap (λ (t : Bool). unless t (c .number) (outcome cs (tt {0}))) (p .0) ∙ q .0, q .1)
 
 -- ---- the value plays no part in what is refused
 

@@ -1,0 +1,3 @@
+pub mod Scheme
+pub mod Calls
+pub mod Demand3

@@ -1,0 +1,1 @@
+// Key check, sealing and opening.

@@ -1,0 +1,1 @@
+// Message bytes as polynomials, and back.
