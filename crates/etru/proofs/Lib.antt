@@ -1,1 +1,2 @@
 pub mod Correctness
+pub mod Demand3

@@ -6,8 +6,8 @@ use mathlib.Core.Logic.{_≢_}
 use Prim.Native.Nat.{ℕ, zero, suc, _≤_, _<_}
 use native.Mathlib.Omega.{arith}
 use native.Mathlib.Decide.{ℕ-discrete}
-use lib.Dec.{T}
-use mir.Facts.{and-yes}
+use lib.Dec.{T, eqb}
+use mir.Facts.{and-yes, yes-and, yes-eqb}
 
 abbrev pub every : (ℕ → Bool) → ℕ → Bool
 every f zero = true
@@ -20,3 +20,13 @@ every-at f (suc n) t k h = go (ℕ-discrete k n) (every-at f n (and-yes (f n) (e
     go : Dec (k ≡ n) → (k < n → T (f k)) → T (f k)
     go (yes e) r = subst (λ (m : ℕ). T (f m)) (sym e) (and-yes (f n) (every f n) t .0)
     go (no e) r = r (omega arith)
+
+-- ---- tests of several equations
+
+pub equal-2 : {a a′ b b′ : ℕ} → a ≡ a′ → b ≡ b′ → T (eqb a a′ && eqb b b′)
+equal-2 {a} {a′} {b} {b′} e f = yes-and (eqb a a′) (eqb b b′) (yes-eqb e) (yes-eqb f)
+
+pub equal-4 : {a a′ b b′ c c′ d d′ : ℕ} → a ≡ a′ → b ≡ b′ → c ≡ c′ → d ≡ d′ → T (eqb a a′ && (eqb b b′ && (eqb c c′ && eqb d d′)))
+equal-4 {a} {a′} {b} {b′} {c} {c′} {d} {d′} e f g h =
+    yes-and (eqb a a′) (eqb b b′ && (eqb c c′ && eqb d d′)) (yes-eqb e)
+    (yes-and (eqb b b′) (eqb c c′ && eqb d d′) (yes-eqb f) (equal-2 g h))

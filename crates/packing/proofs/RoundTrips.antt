@@ -11,11 +11,11 @@ use lib.Dec.{T, eqb, ltb, eqb→eq}
 use lib.IntN.{ℤ, pos, negsuc}
 use lib.ListN.{length, getD}
 use lib.Seq.{ext-getD}
-use mir.Facts.{T-not-not, and-yes, yes-and, or-yes, ltb-yes, yes-eqb}
+use mir.Facts.{T-not-not, and-yes, or-yes, ltb-yes}
 use Rattle.refusals.specs.Outcomes.{done}
 use Rattle.refusals.proofs.Checks.{passed, holds-passed, none-left, done-passed, done-holds, done-value}
 use Rattle.parameters.specs.Sets.{outside}
-use Rattle.integers.proofs.Tests.{every, every-at}
+use Rattle.integers.proofs.Tests.{every, every-at, equal-2}
 use Rattle.eisenstein.specs.Values.{ℤ[ω], value, same}
 use Rattle.eisenstein.specs.Reduction.{bit, mod2}
 use Rattle.eisenstein.proofs.Equality.{same-true}
@@ -300,9 +300,6 @@ unfolding reduced2
 reduced2-same N {m} {m′} h t =
     at-all N (λ i. same (mod2 (m′ i)) (m′ i)) (λ i l. subst (λ (x : ℤ[ω]). T (same (mod2 x) x)) (h i l) (all-at N (λ i. same (mod2 (m i)) (m i)) t i l))
 
-both-equal : (a b c d : ℕ) → a ≡ b → c ≡ d → T (eqb a b && eqb c d)
-both-equal a b c d e f = yes-and (eqb a b) (eqb c d) (yes-eqb e) (yes-eqb f)
-
 not-set : (t : Bool) → t ≡ false → T (not t)
 not-set t e = subst (λ (u : Bool). T (not u)) (sym e) tt
 
@@ -320,7 +317,7 @@ unpacking-undoes-packing N message m bytes e =
     let n : length message ≡ messageBytes N = eqb→eq _ _ (and-yes (eqb (length message) (messageBytes N)) (eqb (2 * N) (2 * N)) (q .0) .0) in
     let same : (i : ℕ) → i < N → packed message i ≡ coefficient m i = λ i l. sym (coefficient-array N (packed message) i l) ∙ ap (λ (x : List ℤ). coefficient x i) v in
     passed 1 _ _ (p .0)
-    ∙ holds-passed 7 (eqb (length m) (2 * N) && eqb (messageBytes N) (messageBytes N)) _ _ (both-equal (length m) (2 * N) (messageBytes N) (messageBytes N) (ap length (sym v) ∙ array-length N (packed message)) refl)
+    ∙ holds-passed 7 (eqb (length m) (2 * N) && eqb (messageBytes N) (messageBytes N)) _ _ (equal-2 {b = messageBytes N} (ap length (sym v) ∙ array-length N (packed message)) refl)
     ∙ holds-passed 11 (reduced2 N (coefficient m)) _ _ (reduced2-same N same (packed-reduced N message))
     ∙ none-left _
     ∙ ap done (unpacked-same N (λ i l. sym (same i l)) ∙ packed-unpacks N message bytes n (not-set (spareBitSet N message) (r .0)))
@@ -334,7 +331,7 @@ packing-undoes-unpacking N m message e =
     let v : unpacked N (coefficient m) ≡ message = done-value _ _ (r .1) in
     let n : length m ≡ 2 * N = eqb→eq _ _ (and-yes (eqb (length m) (2 * N)) (eqb (messageBytes N) (messageBytes N)) (q .0) .0) in
     passed 1 _ _ (p .0)
-    ∙ holds-passed 7 (eqb (length message) (messageBytes N) && eqb (2 * N) (2 * N)) _ _ (both-equal (length message) (messageBytes N) (2 * N) (2 * N) (ap length (sym v) ∙ unpacked-length N (coefficient m)) refl)
+    ∙ holds-passed 7 (eqb (length message) (messageBytes N) && eqb (2 * N) (2 * N)) _ _ (equal-2 {b = 2 * N} (ap length (sym v) ∙ unpacked-length N (coefficient m)) refl)
     ∙ passed 15 _ _ (is-unset (spareBitSet N message) (subst (λ (l : List ℕ). T (not (spareBitSet N l))) v (unpacked-spare N (coefficient m))))
     ∙ none-left _
     ∙ ap done (array-same N (λ i l. ap (λ (x : List ℕ). packed x i) (sym v) ∙ unpacked-packs N (coefficient m) (r .0) i l) ∙ array-coefficients N m n)
