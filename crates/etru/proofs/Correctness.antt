@@ -12,6 +12,9 @@ use Rattle.eisenstein.proofs.Solver.{ringω, conω, _≐_, _⊞_, _⊠_}
 use Rattle.eisenstein.proofs.Laws.{+ω-comm, +ω-zero, congruent-refl, congruent-sym, congruent-trans}
 use Rattle.eisenstein.proofs.Remainders.{modQ-is-remainder, remainder-unique, small-is-remainder}
 use Rattle.eisenstein.proofs.Modulo2.{mod2-by-class}
+use Rattle.parameters.specs.Sets.{ParameterSet}
+use Rattle.etru.specs.Scheme.{opened}
+use Rattle.etru.specs.Promises.{Setting, Opening-undoes-sealing}
 use Rattle.polynomials.specs.Polynomials.{Polynomial, convolution, one, unitsOnly, reduced2}
 use Rattle.polynomials.proofs.Rings.{Congruence}
 use Rattle.polynomials.proofs.Convolutions.{conv, unit, conv-same, conv-congruent, conv-add-right, conv-add-left, conv-assoc, conv-unit-left, conv-comm}
@@ -53,7 +56,10 @@ double-even x = record { quotient = x; equation = doubled x }
 zero-first : (x : ℤ[ω]) → 𝟘 +ω x ≡ x
 zero-first x = +ω-comm 𝟘 x ∙ +ω-zero x
 
-module _ (N s t : ℕ) (q : ℤ[ω]) (q≢0 : q ≢ 𝟘) (bound : 4 * ((2 * s + t) * (2 * s + t)) < norm q) (f F2 Fq g h φ m e : Polynomial) (f-units : T (unitsOnly N t f)) (g-units : T (unitsOnly N s g)) (φ-units : T (unitsOnly N s φ)) (m-reduced : T (reduced2 N m)) (inverse-2 : (i : ℕ) → i < N → Congruent two (convolution N f F2 i) (one i)) (inverse-q : (i : ℕ) → i < N → Congruent q (convolution N f Fq i) (one i)) (h-is : (i : ℕ) → i < N → Congruent q (convolution N Fq g i) (h i)) (e-is : (i : ℕ) → i < N → Congruent q (convolution N (λ j. φ j +ω φ j) h i +ω m i) (e i)) where
+module _ (p : ParameterSet) (f F2 Fq g h φ m e : Polynomial) (S : Setting p f F2 Fq g h φ m e) where
+  open Setting S using (modulus as q≢0, bound, f-units, g-units, φ-units, m-reduced, inverse-2, inverse-q, h-is, e-is)
+  open ParameterSet p using (N, q, s, t)
+
   φ₂ : Polynomial
   φ₂ j = φ j +ω φ j
 
@@ -136,11 +142,14 @@ module _ (N s t : ℕ) (q : ℤ[ω]) (q≢0 : q ≢ 𝟘) (bound : 4 * ((2 * s +
       (congruent-trans (conv-congruent ring (cyclic N) (modulo two) (λ j p. congruent-trans (is-C f F2 j (inverse-2 j p)) (of-equal (one-is j))) (λ k _. congruent-refl two (m k)) i)
       (of-equal (conv-unit-left ring (cyclic N) m i l)))
 
-  pub opening-is : (i : ℕ) → i < N → mod2 (convolution N F2 (λ j. modQ q (convolution N f e j)) i) ≡ m i
-  unfolding C
+  opening-is : (i : ℕ) → i < N → opened p f F2 e i ≡ m i
+  unfolding C opened
   opening-is i l =
       ap mod2
       (convolution-is N F2 (λ j. modQ q (convolution N f e j)) i
       ∙ conv-same ring (cyclic N) (λ j _. refl) (λ k p. ap (modQ q) (convolution-is N f e k) ∙ reduced-is k p) i)
       ∙ mod2-by-class (C F2 a i) (m i) (congruent-trans (conv-congruent ring (cyclic N) (modulo two) (λ j _. congruent-refl two (F2 j)) (λ k _. a-even k) i) (F2-f-m i l))
       ∙ reduced2-at N m m-reduced i l
+
+pub opening-undoes-sealing : Opening-undoes-sealing
+opening-undoes-sealing p f F2 Fq g h φ m e S = opening-is p f F2 Fq g h φ m e S

@@ -27,8 +27,9 @@ use Rattle.packing.specs.Messages.{messageBytes, packed, unpacked, spareBitSet}
 use Rattle.packing.proofs.RoundTrips.{packed-unpacks, packed-reduced, unpacked-same}
 use Rattle.etru.specs.Scheme.{publicKey, sealed, opened}
 use Rattle.etru.specs.Calls.{fullLength, keyCheck, sealing, opening}
+use Rattle.etru.specs.Promises.{Setting}
 use Rattle.etru.specs.Demand3.{AcceptedKey, Ephemeral, Message, Opens, Demand-3}
-use Rattle.etru.proofs.Correctness.{of-equal, modQ-twice, opening-is}
+use Rattle.etru.proofs.Correctness.{of-equal, modQ-twice, opening-undoes-sealing}
 
 -- ---- what accepted parameters give
 
@@ -158,16 +159,28 @@ module _ {p : ParameterSet} {f F2 Fq g h φ : List ℤ} {message : List ℕ} (ke
       ∙ passed 15 _ _ (unset (spareBitSet (p .N) message) (msg .no-spare))
       ∙ none-left _
 
+  setting : Setting p (coefficient f) (coefficient F2) (coefficient Fq) (coefficient g) (coefficient h) (coefficient φ) (packed message) (coefficient e)
+  unfolding bound e sealed publicKey
+  setting = record {
+    modulus = q≢0;
+    bound = key .parameters .below;
+    f-units = key .f-units;
+    g-units = sum-zero-units (p .N) (p .s) (coefficient g) (key .g-units);
+    φ-units = sum-zero-units (p .N) (p .s) (coefficient φ) (ephemeral .in-set);
+    m-reduced = packed-reduced (p .N) message;
+    inverse-2 = congruent2-at (p .N) (convolution (p .N) (coefficient f) (coefficient F2)) one (key .inverse-2);
+    inverse-q = congruentQ-at (p .N) (p .q) (convolution (p .N) (coefficient f) (coefficient Fq)) one q≢0 (key .inverse-q);
+    h-is = λ i l. in-array (publicKey p (coefficient Fq) (coefficient g)) h (key .h-is) (convolution (p .N) (coefficient Fq) (coefficient g)) (λ i. refl) i l;
+    e-is = λ i l. in-array (sealed p (coefficient h) (coefficient φ) (packed message)) e refl (λ i. convolution (p .N) (λ j. coefficient φ j +ω coefficient φ j) (coefficient h) i +ω packed message i) (λ i. refl) i l;
+  }
+    where
+      -- a value and its remainder as it stands in an array
+      in-array : (r : Polynomial) (l : List ℤ) → array (p .N) r ≡ l → (x : Polynomial) → ((i : ℕ) → r i ≡ modQ (p .q) (x i)) → (i : ℕ) → i < p .N → Congruent (p .q) (x i) (coefficient l i)
+      in-array r l a x h i k =
+          subst (Congruent (p .q) (x i)) (sym (h i) ∙ sym (coefficient-array (p .N) r i k) ∙ ap (λ (y : List ℤ). coefficient y i) a) (modQ-is-remainder (p .q) (x i) q≢0 .in-class)
+
   formed : (i : ℕ) → i < p .N → opened p (coefficient f) (coefficient F2) (coefficient e) i ≡ packed message i
-  unfolding opened bound e sealed publicKey
-  formed i l =
-      opening-is (p .N) (p .s) (p .t) (p .q) q≢0 (key .parameters .below) (coefficient f) (coefficient F2) (coefficient Fq) (coefficient g) (coefficient h) (coefficient φ) (packed message) (coefficient e) (key .f-units) (sum-zero-units (p .N) (p .s) (coefficient g) (key .g-units)) (sum-zero-units (p .N) (p .s) (coefficient φ) (ephemeral .in-set)) (packed-reduced (p .N) message)
-      (congruent2-at (p .N) (convolution (p .N) (coefficient f) (coefficient F2)) one (key .inverse-2))
-      (congruentQ-at (p .N) (p .q) (convolution (p .N) (coefficient f) (coefficient Fq)) one q≢0 (key .inverse-q))
-      (λ i l. subst (Congruent (p .q) (convolution (p .N) (coefficient Fq) (coefficient g) i)) (sym (coefficient-array (p .N) (publicKey p (coefficient Fq) (coefficient g)) i l) ∙ ap (λ (x : List ℤ). coefficient x i) (key .h-is)) (modQ-is-remainder (p .q) (convolution (p .N) (coefficient Fq) (coefficient g) i) q≢0 .in-class))
-      (λ i l. subst (Congruent (p .q) (convolution (p .N) (λ j. coefficient φ j +ω coefficient φ j) (coefficient h) i +ω packed message i)) (sym (coefficient-array (p .N) (sealed p (coefficient h) (coefficient φ) (packed message)) i l)) (modQ-is-remainder (p .q) (convolution (p .N) (λ j. coefficient φ j +ω coefficient φ j) (coefficient h) i +ω packed message i) q≢0 .in-class))
-      i
-      l
+  formed = opening-undoes-sealing p (coefficient f) (coefficient F2) (coefficient Fq) (coefficient g) (coefficient h) (coefficient φ) (packed message) (coefficient e) setting
 
   forms : unpacked (p .N) (opened p (coefficient f) (coefficient F2) (coefficient e)) ≡ message
   forms = unpacked-same (p .N) formed ∙ packed-unpacks (p .N) message (msg .bytes) (msg .full) (msg .no-spare)

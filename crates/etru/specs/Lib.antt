@@ -1,3 +1,4 @@
 pub mod Scheme
 pub mod Calls
+pub mod Promises
 pub mod Demand3

@@ -6,3 +6,4 @@ pub mod Eisenstein
 pub mod Bounds
 pub mod Arrays
 pub mod Members
+pub mod Promises

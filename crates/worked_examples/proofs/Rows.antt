@@ -1,5 +1,5 @@
 -- The rows hold: each is computed from the definitions.
-use mathlib.Core.Path.{_≡_, refl, subst}
+use mathlib.Core.Path.{_≡_, refl, sym, subst}
 use mathlib.Core.Bool.{not}
 use lib.Dec.{T}
 use lib.IntN.{pos, negsuc}
@@ -11,16 +11,20 @@ use Rattle.eisenstein.specs.Calls.{beyond}
 use Rattle.eisenstein.proofs.Equality.{same-yes, same-true}
 use Rattle.eisenstein.proofs.Remainders.{modQ-is-remainder}
 use Rattle.parameters.specs.Sets.{outside, even, bound, parameterChecks, parameters}
+use Rattle.polynomials.specs.Polynomials.{coefficient, array, sum, convolution, one, all, count, nonzero, among, unitsOnly, unitsOfSumZero, reducedQ, reduced2, congruentQ, congruent2}
+use Rattle.packing.specs.Messages.{bitOf, pair, packed, spareBitSet, messageBit, byte, listed, unpacked}
+use Rattle.etru.specs.Scheme.{publicKey, sealed, opened}
+use Rattle.etru.specs.Calls.{keyCheck, sealing, opening}
 use Rattle.worked_examples.specs.Rows.{Rows-hold}
 
 -- a remainder, computed by `modQ`
 computed : (q x r : ℤ[ω]) → T (not (same q 𝟘)) → T (same (modQ q x) r) → Remainder q x r
 computed q x r h t =
     subst (Remainder q x) (same-yes (modQ q x) r t)
-    (modQ-is-remainder q x (λ e. T-not (same q 𝟘) (subst T (mathlib.Core.Path.sym (same-true e)) tt) h))
+    (modQ-is-remainder q x (λ e. T-not (same q 𝟘) (subst T (sym (same-true e)) tt) h))
 
 pub rows-hold : Rows-hold
-unfolding modQ mod2 bit cell corner better best _+ω_ _-ω_ _*ω_ norm same sameℤ beyond outside even bound parameterChecks parameters outcome
+unfolding modQ mod2 bit cell corner better best _+ω_ _-ω_ _*ω_ norm same sameℤ beyond outside even bound parameterChecks parameters outcome coefficient array sum convolution one all count nonzero among unitsOnly unitsOfSumZero reducedQ reduced2 congruentQ congruent2 bitOf pair packed spareBitSet messageBit byte listed unpacked publicKey sealed opened keyCheck sealing opening
 rows-hold = (
   computed _ _ _ tt tt,
   (
@@ -41,34 +45,7 @@ rows-hold = (
                   computed _ _ _ tt tt,
                   (
                     computed _ _ _ tt tt,
-                    (
-                      refl,
-                      (
-                        refl,
-                        (
-                          refl,
-                          (
-                            refl,
-                            (
-                              refl,
-                              (
-                                refl,
-                                (
-                                  refl,
-                                  (
-                                    refl,
-                                    (
-                                      refl,
-                                      tt,
-                                    ),
-                                  ),
-                                ),
-                              ),
-                            ),
-                          ),
-                        ),
-                      ),
-                    ),
+                    (refl, (refl, (refl, (refl, (refl, (refl, (refl, (refl, (refl, (refl, (refl, (refl, (refl, tt))))))))))))),
                   ),
                 ),
               ),

@@ -1,12 +1,14 @@
 -- Document 01, 'Small keys and remainders': the lines marked ◆, as rows under one statement.
 use mathlib.Core.Path.{_≡_}
 use mathlib.Core.List.{List, [], _∷_}
-use Prim.Native.Nat.{ℕ}
-use lib.IntN.{pos, negsuc}
-use Rattle.refusals.specs.Outcomes.{number}
+use Prim.Native.Nat.{ℕ, _*_}
+use lib.IntN.{ℤ, pos, negsuc}
+use Rattle.refusals.specs.Outcomes.{number, done}
 use Rattle.eisenstein.specs.Values.{ℤ[ω], value, norm}
 use Rattle.eisenstein.specs.Reduction.{Remainder, mod2}
 use Rattle.parameters.specs.Sets.{ParameterSet, set, bound, parameters}
+use Rattle.packing.specs.Messages.{messageBytes}
+use Rattle.etru.specs.Calls.{keyCheck, sealing, opening}
 
 pub data Row : Type 0 where
   remainder : (q x r : ℤ[ω]) → Row  -- x modulo q is r
@@ -14,6 +16,9 @@ pub data Row : Type 0 where
   norm-is : (x : ℤ[ω]) → ℕ → Row
   refusal : ParameterSet → ℕ → Row  -- the set meets this refusal; 0: it is accepted
   bound-is : ParameterSet → ℕ → Row  -- 4 × (2s + t)²
+  public-key : ParameterSet → (f F2 Fq g h : List ℤ) → Row
+  seals : ParameterSet → (h φ : List ℤ) → (message : List ℕ) → (e : List ℤ) → Row
+  opens : ParameterSet → (f F2 e : List ℤ) → (message : List ℕ) → Row
 
 abbrev pub Holds : Row → Type 0
 Holds (remainder q x r) = Remainder q x r
@@ -21,10 +26,26 @@ Holds (remainder-2 x r) = mod2 x ≡ r
 Holds (norm-is x n) = norm x ≡ n
 Holds (refusal p n) = number (parameters p) ≡ n
 Holds (bound-is p n) = bound p ≡ n
+Holds (public-key p f F2 Fq g h) = keyCheck p f F2 Fq g (2 * p .N) ≡ done h
+Holds (seals p h φ message e) = sealing p h φ message (2 * p .N) ≡ done e
+Holds (opens p f F2 e message) = opening p f F2 e (messageBytes (p .N)) ≡ done message
 
 abbrev pub All : List Row → Type 0
 All [] = Unit {0}
 All (r ∷ rs) = Holds r × All rs
+
+-- N = 3, q = 15, s = 3, t = 1; 1; (1,0),(0,1),(−1,−1); (7,0),(−1,5),(−6,−6)
+abbrev small : ParameterSet
+small = set 3 (pos 15) (pos 0) 3 1
+
+abbrev one : List ℤ
+one = pos 1 ∷ pos 0 ∷ pos 0 ∷ pos 0 ∷ pos 0 ∷ pos 0 ∷ []
+
+abbrev triple : List ℤ
+triple = pos 1 ∷ pos 0 ∷ pos 0 ∷ pos 1 ∷ negsuc 0 ∷ negsuc 0 ∷ []
+
+abbrev sealed : List ℤ
+sealed = pos 7 ∷ pos 0 ∷ negsuc 0 ∷ pos 5 ∷ negsuc 5 ∷ negsuc 5 ∷ []
 
 abbrev pub rows : List Row
 rows =
@@ -53,6 +74,12 @@ rows =
     ∷ norm-is (value (pos 15) (pos 0)) 225
     ∷ refusal (set 3 (pos 15) (pos 0) 3 2) 6
     ∷ bound-is (set 3 (pos 15) (pos 0) 3 2) 256
+    -- "f = F2 = Fq = 1; g = φ = (1,0),(0,1),(−1,−1). Then h = g. Message byte B0 hexadecimal seals to (7,0),(−1,5),(−6,−6)." "That opens to B0."
+    ∷ public-key small one one one triple triple
+    ∷ seals small triple triple (0xb0 ∷ []) sealed
+    ∷ opens small one one sealed (0xb0 ∷ [])
+    -- "The same sealed array opens to B0 with f having (0,1) at X and F2 having (−1,−1) at X²."
+    ∷ opens small (pos 0 ∷ pos 0 ∷ pos 0 ∷ pos 1 ∷ pos 0 ∷ pos 0 ∷ []) (pos 0 ∷ pos 0 ∷ pos 0 ∷ pos 0 ∷ negsuc 0 ∷ negsuc 0 ∷ []) sealed (0xb0 ∷ [])
     ∷ []
 
 abbrev pub Rows-hold : Type 0
