@@ -75,6 +75,21 @@ def documented_lines(results, library):
             results.expect(f"units {j} and {k}", product, reference.UNITS[(j + k) % 6])
 
 
+# document 01's smallest key: N = 3, q = 15, s = 3, t = 1
+SMALL = reference.Parameters(3, (15, 0), 3, 1)
+ONE = [1, 0, 0, 0, 0, 0]
+TRIPLE = [1, 0, 0, 1, -1, -1]
+SEALED = [7, 0, -1, 5, -6, -6]
+
+
+def documented_scheme(results):
+    results.expect("document 01, h = g, reference", reference.call_check_key(SMALL, ONE, ONE, ONE, TRIPLE, 6), (0, TRIPLE))
+    results.expect("document 01, B0 seals, reference", reference.call_seal(SMALL, TRIPLE, TRIPLE, b"\xb0", 6), (0, SEALED))
+    results.expect("document 01, opens to B0, reference", reference.call_open(SMALL, ONE, ONE, SEALED, 1), (0, b"\xb0"))
+    f, f2 = [0, 0, 0, 1, 0, 0], [0, 0, 0, 0, -1, -1]
+    results.expect("document 01, f at X, reference", reference.call_open(SMALL, f, f2, SEALED, 1), (0, b"\xb0"))
+
+
 # ---- values modulo q and modulo 2
 
 EDGES_64 = [0, 1, -1, 2, -2, 7, 8, -8, LIMIT - 1, LIMIT, LIMIT + 1, -LIMIT + 1, -LIMIT, -LIMIT - 1, HIGH64, LOW64, HIGH32, LOW32]
@@ -184,6 +199,7 @@ def main():
     results = Results()
     library = Library()
     documented_lines(results, library)
+    documented_scheme(results)
     reductions(results, library, rng)
     parameter_sets(results, library, rng)
     print(f"comparison with the reference program, seed {seed}:")

@@ -100,14 +100,199 @@ def call_reduce_2(x):
     return (number, None if number else reduce_2(x))
 
 
+def parameter_checks(n, q, s, t):
+    return [
+        (1, lambda: not 3 <= n <= 1024),
+        (2, lambda: part_beyond(q, 4095)),
+        (3, lambda: q[0] % 2 == 0 and q[1] % 2 == 0),
+        (4, lambda: not 3 <= s <= n or s % 3 != 0),
+        (5, lambda: not 1 <= t <= n),
+        (6, lambda: not 4 * (2 * s + t) ** 2 < norm(q)),
+    ]
+
+
 def call_check_parameters(n, q, s, t):
-    return first(
-        [
-            (1, lambda: not 3 <= n <= 1024),
-            (2, lambda: part_beyond(q, 4095)),
-            (3, lambda: q[0] % 2 == 0 and q[1] % 2 == 0),
-            (4, lambda: not 3 <= s <= n or s % 3 != 0),
-            (5, lambda: not 1 <= t <= n),
-            (6, lambda: not 4 * (2 * s + t) ** 2 < norm(q)),
+    return first(parameter_checks(n, q, s, t))
+
+
+# ---- Polynomials: a list of N values; an array is the list of their 2N parts
+
+
+def coefficients(array):
+    return [(array[2 * i], array[2 * i + 1]) for i in range(len(array) // 2)]
+
+
+def array(polynomial):
+    return [part for value in polynomial for part in value]
+
+
+def convolve(x, y):
+    """Coefficient i is the sum of products of coefficients j and k with (j + k) mod N = i."""
+    n = len(x)
+    result = [(0, 0)] * n
+    for j in range(n):
+        if x[j] == (0, 0):
+            continue
+        for k in range(n):
+            i = (j + k) % n
+            result[i] = add(result[i], multiply(x[j], y[k]))
+    return result
+
+
+def one(n):
+    return [(1, 0)] + [(0, 0)] * (n - 1)
+
+
+def units_only(x, count):
+    nonzero = [value for value in x if value != (0, 0)]
+    return len(nonzero) == count and all(value in UNITS for value in nonzero)
+
+
+def units_of_sum_zero(x, count):
+    return units_only(x, count) and (sum(a for a, _ in x), sum(b for _, b in x)) == (0, 0)
+
+
+def reduced_q(x, q):
+    # a remainder's norm is at most a third of q's, so the search is spared for what cannot be one
+    return all(3 * norm(value) <= norm(q) and reduce_q(value, q) == value for value in x)
+
+
+def reduced_2(x):
+    return all(reduce_2(value) == value for value in x)
+
+
+def all_reduced_q(x, q):
+    return [reduce_q(value, q) for value in x]
+
+
+def all_reduced_2(x):
+    return [reduce_2(value) for value in x]
+
+
+# ---- Messages: 2N bits in N/4 bytes, rounded up, highest bit first
+
+
+def message_length(n):
+    return -(-n // 4)
+
+
+def bits(message):
+    return [byte >> (7 - place) & 1 for byte in message for place in range(8)]
+
+
+def spare_bit_set(n, message):
+    return any(bits(message)[2 * n :])
+
+
+def pack(n, message):
+    pairs = bits(message)
+    m = [(pairs[2 * i], pairs[2 * i + 1]) for i in range(n)]
+    return [(-1, -1) if pair == (1, 1) else pair for pair in m]
+
+
+def unpack(n, m):
+    pairs = [abs(part) for value in m for part in value]
+    pairs += [0] * (8 * message_length(n) - 2 * n)
+    return bytes(sum(bit << (7 - place) for place, bit in enumerate(pairs[at : at + 8])) for at in range(0, len(pairs), 8))
+
+
+# ---- Calls on a parameter set (n, q, s, t); `room` is the length of the lent output
+
+
+class Parameters:
+    def __init__(self, n, q, s, t):
+        self.n, self.q, self.s, self.t = n, q, s, t
+
+    def checks(self):
+        return parameter_checks(self.n, self.q, self.s, self.t)
+
+
+def lengths_wrong(n, arrays, room=None, message=None):
+    wrong = [len(array) != 2 * n for array in arrays]
+    if room is not None:
+        wrong.append(room != 2 * n)
+    if message is not None:
+        wrong.append(message != message_length(n))
+    return any(wrong)
+
+
+def call_convolve(p, x, y, room):
+    number = first(
+        p.checks()
+        + [
+            (7, lambda: lengths_wrong(p.n, [x, y], room)),
+            (12, lambda: not reduced_q(coefficients(x), p.q) or not reduced_q(coefficients(y), p.q)),
         ]
     )
+    return (number, None if number else array(all_reduced_q(convolve(coefficients(x), coefficients(y)), p.q)))
+
+
+def call_check_key(p, f, f2, fq, g, room):
+    number = first(
+        p.checks()
+        + [
+            (7, lambda: lengths_wrong(p.n, [f, f2, fq, g], room)),
+            (8, lambda: not units_only(coefficients(f), p.t)),
+            (11, lambda: not reduced_2(coefficients(f2))),
+            (12, lambda: not reduced_q(coefficients(fq), p.q)),
+            (9, lambda: not units_of_sum_zero(coefficients(g), p.s)),
+            (13, lambda: all_reduced_2(convolve(coefficients(f), coefficients(f2))) != one(p.n)),
+            (14, lambda: all_reduced_q(convolve(coefficients(f), coefficients(fq)), p.q) != all_reduced_q(one(p.n), p.q)),
+        ]
+    )
+    return (number, None if number else array(all_reduced_q(convolve(coefficients(g), coefficients(fq)), p.q)))
+
+
+def call_seal(p, h, phi, message, room):
+    number = first(
+        p.checks()
+        + [
+            (7, lambda: lengths_wrong(p.n, [h, phi], room, len(message))),
+            (12, lambda: not reduced_q(coefficients(h), p.q)),
+            (10, lambda: not units_of_sum_zero(coefficients(phi), p.s)),
+            (15, lambda: spare_bit_set(p.n, message)),
+        ]
+    )
+    if number:
+        return (number, None)
+    doubled = [add(value, value) for value in coefficients(phi)]
+    product = convolve(doubled, coefficients(h))
+    return (0, array(all_reduced_q([add(x, m) for x, m in zip(product, pack(p.n, message))], p.q)))
+
+
+def call_open(p, f, f2, e, room):
+    number = first(
+        p.checks()
+        + [
+            (7, lambda: lengths_wrong(p.n, [f, f2, e], None, room)),
+            (8, lambda: not units_only(coefficients(f), p.t)),
+            (11, lambda: not reduced_2(coefficients(f2))),
+            (12, lambda: not reduced_q(coefficients(e), p.q)),
+        ]
+    )
+    if number:
+        return (number, None)
+    a = all_reduced_q(convolve(coefficients(f), coefficients(e)), p.q)
+    return (0, unpack(p.n, all_reduced_2(convolve(coefficients(f2), a))))
+
+
+def call_pack(n, message, room):
+    number = first(
+        [
+            (1, lambda: not 3 <= n <= 1024),
+            (7, lambda: lengths_wrong(n, [], room, len(message))),
+            (15, lambda: spare_bit_set(n, message)),
+        ]
+    )
+    return (number, None if number else array(pack(n, message)))
+
+
+def call_unpack(n, m, room):
+    number = first(
+        [
+            (1, lambda: not 3 <= n <= 1024),
+            (7, lambda: lengths_wrong(n, [m], None, room)),
+            (11, lambda: not reduced_2(coefficients(m))),
+        ]
+    )
+    return (number, None if number else unpack(n, coefficients(m)))
