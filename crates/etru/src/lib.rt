@@ -1,1 +1,2 @@
-// Key check, sealing and opening.
+// The scheme: convolution modulo q, key check, sealing and opening.
+mod arrays;
