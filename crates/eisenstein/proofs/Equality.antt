@@ -54,3 +54,6 @@ same-yes x y t =
 pub same-true : {x y : ℤ[ω]} → x ≡ y → same x y ≡ true
 unfolding same
 same-true e = ap₂ _&&_ (sameℤ-true (ap (λ (z : ℤ[ω]). z .a) e)) (sameℤ-true (ap (λ (z : ℤ[ω]). z .b) e))
+
+pub same-false : (x y : ℤ[ω]) → x ≢ y → same x y ≡ false
+same-false x y h = is-false (same x y) (λ t. h (same-yes x y t))

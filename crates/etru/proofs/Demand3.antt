@@ -201,8 +201,8 @@ module _ {p : ParameterSet} {f F2 Fq g h φ : List ℤ} {message : List ℕ} (ke
   all-opens = record { e = e; seals = seals; opens = opens; forms = forms }
 
 -- two outcomes of one call
-same-done : {A : Type 0} {o : Outcome A} {a b : A} → o ≡ done a → o ≡ done b → a ≡ b
-same-done p r = cc
+one-outcome : {A : Type 0} {o : Outcome A} {a b : A} → o ≡ done a → o ≡ done b → a ≡ b
+one-outcome p r = cc
 
 pub demand-3 : Demand-3
 demand-3 = record {
@@ -210,6 +210,6 @@ demand-3 = record {
   distinct = λ p f F2 Fq g h φ φ′ message message′ e e′ key ephemeral ephemeral′ msg msg′ seals seals′ same-e.
       let o = all-opens (accepted-key key) ephemeral msg in
       let o′ = all-opens (accepted-key key) ephemeral′ msg′ in
-      let same : o .e ≡ o′ .e = same-done (o .seals) seals ∙ same-e ∙ same-done seals′ (o′ .seals) in
-      same-done (subst (λ (x : List ℤ). opening p f F2 x (messageBytes (p .N)) ≡ done message) same (o .opens)) (o′ .opens);
+      let same : o .e ≡ o′ .e = one-outcome (o .seals) seals ∙ same-e ∙ one-outcome seals′ (o′ .seals) in
+      one-outcome (subst (λ (x : List ℤ). opening p f F2 x (messageBytes (p .N)) ≡ done message) same (o .opens)) (o′ .opens);
 }

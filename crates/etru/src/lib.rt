@@ -1,2 +1,3 @@
 // The scheme: convolution modulo q, key check, sealing and opening.
 mod arrays;
+mod products;

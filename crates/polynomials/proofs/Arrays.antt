@@ -1,10 +1,13 @@
 -- Arrays of 2N numbers and their coefficients.
 use mathlib.Core.Path.{_≡_, refl, sym, _∙_, ap, ap₂, subst}
 use mathlib.Core.List.{List, [], _∷_}
+use mathlib.Core.Logic.{_≢_}
 use Prim.Native.Nat.{ℕ, zero, suc, _+_, _*_, _<_}
 use native.Mathlib.Omega.{arith}
+use native.Mathlib.Decide.{ℕ-discrete}
 use lib.IntN.{ℤ, pos}
-use lib.ListN.{length, getD}
+use lib.ListN.{length, getD, set, length-set}
+use lib.Seq.{getD-set-same, getD-set-other}
 use Rattle.eisenstein.specs.Values.{ℤ[ω], value}
 use Rattle.polynomials.specs.Polynomials.{Polynomial, coefficient, array}
 
@@ -46,3 +49,33 @@ array-coefficients (suc n) (a ∷ []) h = absurd (omega arith)
 array-coefficients (suc n) (a ∷ b ∷ l) h =
     ap₂ (λ (z : ℤ[ω]) (r : List ℤ). z .a ∷ z .b ∷ r) (coefficient-first a b l)
     (array-same n (λ i p. coefficient-later a b l i) ∙ array-coefficients n l (omega arith))
+
+-- ---- an array after one coefficient is stored
+
+pub stored-at : (l : List ℤ) (i : ℕ) (a b : ℤ) → 2 * i + 1 < length l → coefficient (set (set l (2 * i) a) (2 * i + 1) b) i ≡ value a b
+unfolding coefficient
+stored-at l i a b h =
+    ap₂ value (getD-set-other (set l (2 * i) a) (2 * i + 1) (2 * i) b (pos 0) (λ e. omega arith) ∙ getD-set-same l (2 * i) a (pos 0) (omega arith))
+    (getD-set-same (set l (2 * i) a) (2 * i + 1) b (pos 0) (subst (λ (n : ℕ). 2 * i + 1 < n) (sym (length-set l (2 * i) a)) h))
+
+pub stored-elsewhere : (l : List ℤ) (i k : ℕ) (a b : ℤ) → k ≢ i → coefficient (set (set l (2 * i) a) (2 * i + 1) b) k ≡ coefficient l k
+unfolding coefficient
+stored-elsewhere l i k a b ne = ap₂ value (past (2 * k) (λ e. ne (omega arith)) (λ e. ne (omega arith))) (past (2 * k + 1) (λ e. ne (omega arith)) (λ e. ne (omega arith)))
+  where
+    past : (m : ℕ) → (m ≡ 2 * i → ⊥) → (m ≡ 2 * i + 1 → ⊥) → getD (set (set l (2 * i) a) (2 * i + 1) b) m (pos 0) ≡ getD l m (pos 0)
+    past m p q = getD-set-other (set l (2 * i) a) (2 * i + 1) m b (pos 0) q ∙ getD-set-other l (2 * i) m a (pos 0) p
+
+-- coefficients known one by one make up an array
+pub array-by-coefficients : (N : ℕ) (l : List ℤ) (x : Polynomial) → length l ≡ 2 * N → ((i : ℕ) → i < N → coefficient l i ≡ x i) → l ≡ array N x
+array-by-coefficients N l x e h = sym (array-coefficients N l e) ∙ array-same N h
+
+-- one more coefficient of an array that is filled from the front
+pub filled-more : (l : List ℤ) (i : ℕ) (a b : ℤ) (x : Polynomial) → 2 * i + 1 < length l → ((k : ℕ) → k < i → coefficient l k ≡ x k) → value a b ≡ x i → (k : ℕ) → k < i + 1 → coefficient (set (set l (2 * i) a) (2 * i + 1) b) k ≡ x k
+filled-more l i a b x h f e k p = go (ℕ-discrete k i)
+  where
+    go : Dec (k ≡ i) → coefficient (set (set l (2 * i) a) (2 * i + 1) b) k ≡ x k
+    go (yes q) = ap (coefficient (set (set l (2 * i) a) (2 * i + 1) b)) q ∙ stored-at l i a b h ∙ e ∙ ap x (sym q)
+    go (no q) = stored-elsewhere l i k a b q ∙ f k (omega arith)
+
+pub stored-length : (l : List ℤ) (i : ℕ) (a b : ℤ) → length (set (set l (2 * i) a) (2 * i + 1) b) ≡ length l
+stored-length l i a b = length-set (set l (2 * i) a) (2 * i + 1) b ∙ length-set l (2 * i) a

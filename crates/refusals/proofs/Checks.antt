@@ -23,8 +23,11 @@ none-left a = refl
 
 -- ---- what is done has passed every check
 
-never-done : {A : Type 0} (n : ℕ) (a : A) → refused n ≡ done a → ⊥
+pub never-done : {A : Type 0} (n : ℕ) (a : A) → refused n ≡ done a → ⊥
 never-done n a e = let z : _≡_ {A = ℕ} 0 1 = cc in omega arith
+
+pub same-done : {A : Type 0} {a b : A} → done a ≡ done b → a ≡ b
+same-done e = cc
 
 unless-done : {A : Type 0} (t : Bool) (n : ℕ) (o : Outcome A) (a : A) → unless t n o ≡ done a → (t ≡ false) × (o ≡ done a)
 unless-done true n o a e = absurd (never-done n a e)

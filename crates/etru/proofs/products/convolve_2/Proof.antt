@@ -1,0 +1,69 @@
+-- `convolve_2` meets its contract. The loop's invariant: the coefficients that are stored are right.
+use mathlib.Core.Path.{_≡_, refl, sym, _∙_, ap, ap₂, subst}
+use mathlib.Core.List.{List}
+use Prim.Native.Nat.{ℕ, _+_, _-_, _*_, _^_, _≤_, _<_}
+use native.Mathlib.Omega.{arith}
+use native.Mathlib.Nat.{le-trans}
+use lib.Dec.{lit<, lit≤}
+use lib.IntN.{ℤ, natAbs}
+use lib.ListN.{length}
+use mir.Syntax.{w64}
+use mir.Val.{toZ, ofZ}
+use mir.Facts.{toZ-ofZ}
+use Rattle.integers.proofs.Machine.{sfits-within}
+use Rattle.eisenstein.specs.Values.{value}
+use Rattle.eisenstein.specs.Reduction.{mod2}
+use Rattle.polynomials.specs.Polynomials.{coefficient, convolution}
+use Rattle.polynomials.proofs.Arrays.{filled-more, stored-length, array-by-coefficients}
+use Rattle.etru.proofs.products.convolve_2.Statement.{statement}
+use Rattle.etru.proofs.products.convolve_2.Tie as tie
+
+abbrev Inv-loop : tie.InvT-loop
+Inv-loop x y n out₀ i₀ out i =
+    (i ≤ n) × (length out ≡ 2 * n) × ((k : ℕ) → k < i → coefficient out k ≡ mod2 (convolution n (coefficient x) (coefficient y) k))
+
+abbrev μ-loop : tie.MeasureT-loop
+μ-loop x y n out₀ i₀ out i = n - i
+
+-- a sum as it is handed to the reduction
+back : (z : ℤ) → natAbs z ≤ 2 ^ 39 → toZ w64 (ofZ w64 z) ≡ z
+back z h = toZ-ofZ (sfits-within z h (lit< tt))
+
+small : (z : ℤ) → natAbs z ≤ 2 ^ 39 → natAbs (toZ w64 (ofZ w64 z)) ≤ 2 ^ 40
+small z h = subst (λ (y : ℤ). natAbs y ≤ 2 ^ 40) (sym (back z h)) (le-trans h (lit≤ tt))
+
+loop-again : tie.Need-loop-again Inv-loop μ-loop
+loop-again c =
+    let l = c .before .before .before .before .before .before .before .before in
+    let s = l .before in
+    let w = c .before .before .before .before .before .before .coefficient-of in
+    let r = c .before .before .reduced-2 in
+    let e = c .before .store .ensures in (
+      omega (arith, c .before .before .before .before .before .before .before .loop-test .taken),
+      ap length e ∙ stored-length (l .loop .out) (l .loop .i) (r .result .a) (r .result .b) ∙ l .loop .inv .1,
+      subst (λ (o : List ℤ). (k : ℕ) → k < l .loop .i + 1 → coefficient o k ≡ mod2 (convolution (s .args .n) (coefficient (s .args .x .now)) (coefficient (s .args .y .now)) k)) (sym e)
+          (filled-more (l .loop .out) (l .loop .i) (r .result .a) (r .result .b) (λ k. mod2 (convolution (s .args .n) (coefficient (s .args .x .now)) (coefficient (s .args .y .now)) k)) (omega (arith, l .loop .inv .1, c .before .before .before .before .before .before .before .loop-test .taken)) (l .loop .inv .2)
+          (r .ensures ∙ ap (mod2) (ap₂ value (back (w .result .a) (w .ensures .1)) (back (w .result .b) (w .ensures .2)) ∙ w .ensures .0))),
+    )
+
+pub convolve-2-spec : {M : Type 1} → statement M
+convolve-2-spec =
+    tie.close
+    (tie.spec
+    Inv-loop
+    μ-loop
+    (λ c. (omega arith, c .pre .0 .3, λ k l. absurd (omega arith)))
+    (λ c κs. let s = c .before .before in ((omega arith, s .pre .0 .0, s .pre .0 .1, s .pre .0 .2), (s .pre .1 .0, s .pre .1 .1)))
+    (λ c κs.
+    let w = c .before .before .before .coefficient-of in
+    let s = c .before .before .before .before .before .before in
+    (small (w .result .a) (w .ensures .1), small (w .result .b) (w .ensures .2)))
+    (λ c κs. (omega arith, omega (arith, c .before .before .before .before .before .before .loop .inv .1)))
+    (λ c. omega arith)
+    (λ c. omega arith)
+    loop-again
+    (λ c. c .before .loop .inv .1 ∙ sym (c .before .before .pre .0 .3))
+    (λ c.
+    let l = c .before in
+    let s = l .before in
+    array-by-coefficients (s .args .n) (l .loop .out) _ (l .loop .inv .1) (λ i p. l .loop .inv .2 i (omega (arith, c .loop-test .left)))))
