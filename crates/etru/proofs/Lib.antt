@@ -1,2 +1,3 @@
+pub mod Scans
 pub mod Correctness
 pub mod Demand3

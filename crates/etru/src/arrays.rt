@@ -14,7 +14,7 @@ pub(crate) struct Wide {
 // One number of an array.
 pub(crate) fn at(x: &[i32], k: usize) -> i64
     requires { ⌜ k < length (now x) ⌝ }
-    ensures { λ r. ⌜ r ≡ getD (now (x .entry)) k (pos 0) ⌝ }
+    ensures { λ r. ⌜ (r ≡ getD (now (x .entry)) k (pos 0)) × (natAbs r ≤ 2 ^ 31) ⌝ }
 {
     x[k] as i64
 }

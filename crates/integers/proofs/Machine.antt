@@ -5,7 +5,7 @@ use mathlib.Core.Bool.{Bool, true, false, not, _&&_}
 use mathlib.Core.List.{List, [], _∷_, map}
 use Prim.Native.Nat.{ℕ, zero, suc, _+_, _*_, _/_, _%_, _^_, _≤_, _<_}
 use native.Mathlib.Omega.{arith}
-use native.Mathlib.Nat.{le-trans, le-refl, mul-le-mul, lt-of-le-of-lt, div-le-self, mod-le, mul-div-cancel-left, zero-div}
+use native.Mathlib.Nat.{le-trans, le-refl, mul-le-mul, lt-of-le-of-lt, div-le-self, mod-le, mul-div-cancel-left, zero-div, suc-mul}
 use lib.Dec.{T, ltb, ltb→lt, leb, leb→le}
 use lib.IntN.{ℤ, pos, negsuc, negℤ, natAbs, _+ℤ_, _-ℤ_, _*ℤ_}
 use lib.Signed.{mag, ltZ, quotZ, remZ, _<ℤ_, _≤ℤ_, ltZ-yes, ltZ-no}
@@ -237,3 +237,18 @@ rest {x} {n} {x′} {n′} b e f h = record {
   is = ap₂ remZ e f;
   small = le-trans (natAbs-rem x n) h;
 }
+
+-- ---- a sum that a loop keeps: n numbers within m are within n·m. Its bits are a variable, so the bound is not computed
+
+module _ (w : Width) (n m : ℕ) (x z : ℤ) (p : natAbs x ≤ n * m) (q : natAbs z ≤ m) (room : n * m + m < 2 ^ hbits w) where
+  pub term-read : toZ w (ofZ w z) ≡ z
+  term-read = toZ-ofZ (sfits-within z q (omega arith))
+
+  pub sum-fits : SFits w (x +ℤ toZ w (ofZ w z))
+  sum-fits = subst (λ (y : ℤ). SFits w (x +ℤ y)) (sym term-read) (sfits-within (x +ℤ z) (natAbs-+ x z) (omega arith))
+
+  pub sum-read : toZ w (ofZ w (x +ℤ toZ w (ofZ w z))) ≡ x +ℤ z
+  sum-read = toZ-ofZ sum-fits ∙ ap (λ (y : ℤ). x +ℤ y) term-read
+
+  pub sum-size : (k : ℕ) → k ≡ suc n → natAbs (toZ w (ofZ w (x +ℤ toZ w (ofZ w z)))) ≤ k * m
+  sum-size k e = subst (λ (y : ℤ). natAbs y ≤ k * m) (sym sum-read) (omega (arith, natAbs-+ x z, ap (λ (j : ℕ). j * m) e, suc-mul n m))

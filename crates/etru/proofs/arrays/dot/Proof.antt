@@ -3,15 +3,11 @@ use mathlib.Core.Path.{_≡_, refl, sym, _∙_, ap, ap₂, subst}
 use mathlib.Core.List.{List}
 use Prim.Native.Nat.{ℕ, zero, suc, _+_, _-_, _*_, _^_, _≤_, _<_}
 use native.Mathlib.Omega.{arith}
-use borrow.Author.Needs.{needs}
-use lib.Dec.{lit<}
-use lib.IntN.{ℤ, pos, natAbs, _+ℤ_}
+use lib.IntN.{ℤ, pos, natAbs}
 use lib.ListN.{length}
 use mir.Syntax.{w64}
-use mir.Val.{SFits, toZ, ofZ}
-use mir.Facts.{toZ-ofZ}
-use Rattle.integers.proofs.Machine.{sfits-within}
-use Rattle.integers.proofs.Absolute.{natAbs-+}
+use mir.Val.{toZ}
+use Rattle.integers.proofs.Machine.{sum-fits, sum-read, sum-size}
 use Rattle.eisenstein.specs.Values.{ℤ[ω], value, _+ω_, _*ω_}
 use Rattle.polynomials.specs.Polynomials.{coefficient, sum}
 use Rattle.etru.proofs.arrays.dot.Statement.{statement}
@@ -45,30 +41,15 @@ sub-product c = omega arith
 product-requires : tie.Need-product-requires Inv-loop μ-loop
 product-requires c κs = ((omega arith, omega arith, omega arith, omega arith), (c .before .before .pre .1 .0, c .before .before .pre .1 .1))
 
--- a part of the product as it is read back
-back : (z : ℤ) → natAbs z ≤ 2 ^ 28 → toZ w64 (ofZ w64 z) ≡ z
-back z h = toZ-ofZ (sfits-within z h (lit< tt))
-
--- one more term of a sum
-module _ (n : ℕ) (x z : ℤ) (p : natAbs x ≤ n * 2 ^ 28) (q : natAbs z ≤ 2 ^ 28) (few : n < 1024) where
-  sum-fits-64 : SFits w64 (x +ℤ toZ w64 (ofZ w64 z))
-  sum-fits-64 = subst (λ (y : ℤ). SFits w64 (x +ℤ y)) (sym (back z q)) (sfits-within (x +ℤ z) (natAbs-+ x z) (omega arith))
-
-  sum-read : toZ w64 (ofZ w64 (x +ℤ toZ w64 (ofZ w64 z))) ≡ x +ℤ z
-  sum-read = toZ-ofZ sum-fits-64 ∙ ap (λ (y : ℤ). x +ℤ y) (back z q)
-
-  sum-size : (k : ℕ) → k ≡ suc n → natAbs (toZ w64 (ofZ w64 (x +ℤ toZ w64 (ofZ w64 z)))) ≤ k * 2 ^ 28
-  sum-size k e = subst (λ (y : ℤ). natAbs y ≤ k * 2 ^ 28) (sym sum-read) (omega (arith, natAbs-+ x z, e))
-
 add-a : tie.Need-add-a Inv-loop μ-loop
 add-a c =
     let l = c .before .before .before .before in
-    sum-fits-64 (l .loop .j - l .before .args .from) (toZ w64 (l .loop .a)) (c .before .before .product .result .a) (l .loop .inv .3) (c .before .before .product .ensures .1) (omega (arith, l .loop .inv, l .before .pre .0, c .before .before .before .loop-test .taken))
+    sum-fits w64 (l .loop .j - l .before .args .from) (2 ^ 28) (toZ w64 (l .loop .a)) (c .before .before .product .result .a) (l .loop .inv .3) (c .before .before .product .ensures .1) (omega (arith, l .loop .inv, l .before .pre .0, c .before .before .before .loop-test .taken))
 
 add-b : tie.Need-add-b Inv-loop μ-loop
 add-b c =
     let l = c .before .before .before .before in
-    sum-fits-64 (l .loop .j - l .before .args .from) (toZ w64 (l .loop .b)) (c .before .before .product .result .b) (l .loop .inv .4) (c .before .before .product .ensures .2) (omega (arith, l .loop .inv, l .before .pre .0, c .before .before .before .loop-test .taken))
+    sum-fits w64 (l .loop .j - l .before .args .from) (2 ^ 28) (toZ w64 (l .loop .b)) (c .before .before .product .result .b) (l .loop .inv .4) (c .before .before .product .ensures .2) (omega (arith, l .loop .inv, l .before .pre .0, c .before .before .before .loop-test .taken))
 
 add-j : tie.Need-add-j Inv-loop μ-loop
 add-j c = omega arith
@@ -83,16 +64,16 @@ loop-again c =
     let s = l .before in
     let r = c .before .before .product in
     let n : ℕ = l .loop .j - s .args .from in
-    let few : n < 1024 = omega (arith, l .loop .inv, s .pre .0, c .before .before .before .loop-test .taken) in
+    let few : n * 2 ^ 28 + 2 ^ 28 < 2 ^ 63 = omega (arith, l .loop .inv, s .pre .0, c .before .before .before .loop-test .taken) in
     let e : l .loop .j + 1 - s .args .from ≡ suc n = omega (arith, l .loop .inv) in
     let at : s .args .from + n ≡ l .loop .j = omega (arith, l .loop .inv) in (
       omega (arith, l .loop .inv),
       omega (arith, c .before .before .before .loop-test .taken),
-      ap₂ value (sum-read n (toZ w64 (l .loop .a)) (r .result .a) (l .loop .inv .3) (r .ensures .1) few) (sum-read n (toZ w64 (l .loop .b)) (r .result .b) (l .loop .inv .4) (r .ensures .2) few)
+      ap₂ value (sum-read w64 n (2 ^ 28) (toZ w64 (l .loop .a)) (r .result .a) (l .loop .inv .3) (r .ensures .1) few) (sum-read w64 n (2 ^ 28) (toZ w64 (l .loop .b)) (r .result .b) (l .loop .inv .4) (r .ensures .2) few)
           ∙ ap₂ _+ω_ (l .loop .inv .2) (r .ensures .0 ∙ ap (λ (k : ℕ). coefficient (s .args .x .now) k *ω coefficient (s .args .y .now) (s .args .base - k)) (sym at))
           ∙ sym (one-more (terms (s .args .x .now) (s .args .y .now) (s .args .from) (s .args .base)) n (l .loop .j + 1 - s .args .from) e),
-      sum-size n (toZ w64 (l .loop .a)) (r .result .a) (l .loop .inv .3) (r .ensures .1) few (l .loop .j + 1 - s .args .from) e,
-      sum-size n (toZ w64 (l .loop .b)) (r .result .b) (l .loop .inv .4) (r .ensures .2) few (l .loop .j + 1 - s .args .from) e,
+      sum-size w64 n (2 ^ 28) (toZ w64 (l .loop .a)) (r .result .a) (l .loop .inv .3) (r .ensures .1) few (l .loop .j + 1 - s .args .from) e,
+      sum-size w64 n (2 ^ 28) (toZ w64 (l .loop .b)) (r .result .b) (l .loop .inv .4) (r .ensures .2) few (l .loop .j + 1 - s .args .from) e,
     )
 
 returns : tie.Need-returns Inv-loop μ-loop

@@ -21,10 +21,10 @@ read-bound l k h e = subst (λ (z : ℤ). natAbs z ≤ 2 ^ 13) (sym e) (h k)
 abbrev ρ : tie.After-at4 → List Leaf
 ρ c =
     let s = c .before .before .before .before in
-    given (c .before .before .before .at .result) (2 ^ 13) (read-bound (s .args .x .now) (2 * s .args .j) (s .pre .1 .0) (c .before .before .before .at .ensures))
-    ∷ given (c .before .before .at2 .result) (2 ^ 13) (read-bound (s .args .x .now) (2 * s .args .j + 1) (s .pre .1 .0) (c .before .before .at2 .ensures))
-    ∷ given (c .before .at3 .result) (2 ^ 13) (read-bound (s .args .y .now) (2 * s .args .k) (s .pre .1 .1) (c .before .at3 .ensures))
-    ∷ given (c .at4 .result) (2 ^ 13) (read-bound (s .args .y .now) (2 * s .args .k + 1) (s .pre .1 .1) (c .at4 .ensures))
+    given (c .before .before .before .at .result) (2 ^ 13) (read-bound (s .args .x .now) (2 * s .args .j) (s .pre .1 .0) (c .before .before .before .at .ensures .0))
+    ∷ given (c .before .before .at2 .result) (2 ^ 13) (read-bound (s .args .x .now) (2 * s .args .j + 1) (s .pre .1 .0) (c .before .before .at2 .ensures .0))
+    ∷ given (c .before .at3 .result) (2 ^ 13) (read-bound (s .args .y .now) (2 * s .args .k) (s .pre .1 .1) (c .before .at3 .ensures .0))
+    ∷ given (c .at4 .result) (2 ^ 13) (read-bound (s .args .y .now) (2 * s .args .k + 1) (s .pre .1 .1) (c .at4 .ensures .0))
     ∷ []
 
 abbrev xa : Expr
@@ -47,11 +47,11 @@ b = xa ⊗ yb ⊕ xb ⊗ ya ⊝ xb ⊗ yb
 
 x-is : (c : tie.After-at4) → value (c .before .before .before .at .result) (c .before .before .at2 .result) ≡ coefficient (c .before .before .before .before .args .x .now) (c .before .before .before .before .args .j)
 unfolding coefficient
-x-is c = ap₂ value (c .before .before .before .at .ensures) (c .before .before .at2 .ensures)
+x-is c = ap₂ value (c .before .before .before .at .ensures .0) (c .before .before .at2 .ensures .0)
 
 y-is : (c : tie.After-at4) → value (c .before .at3 .result) (c .at4 .result) ≡ coefficient (c .before .before .before .before .args .y .now) (c .before .before .before .before .args .k)
 unfolding coefficient
-y-is c = ap₂ value (c .before .at3 .ensures) (c .at4 .ensures)
+y-is c = ap₂ value (c .before .at3 .ensures .0) (c .at4 .ensures .0)
 
 returns : tie.Need-returns
 unfolding _*ω_

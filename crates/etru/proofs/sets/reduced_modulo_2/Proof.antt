@@ -1,0 +1,45 @@
+-- `reduced_modulo_2` meets its contract. The loop's invariant: every test so far has passed.
+use mathlib.Core.Path.{_≡_, refl, sym, _∙_, ap}
+use mathlib.Core.Bool.{Bool, true, not, _||_}
+use Prim.Native.Nat.{ℕ, _-_, _≤_}
+use native.Mathlib.Omega.{arith}
+use borrow.Author.Tests.{not-true, not-false}
+use mathlib.Core.List.{List}
+use lib.IntN.{ℤ}
+use Rattle.eisenstein.specs.Values.{same}
+use Rattle.eisenstein.specs.Reduction.{mod2}
+use Rattle.polynomials.specs.Polynomials.{coefficient, all, reduced2}
+use Rattle.etru.proofs.Scans.{all-none, all-more, all-fails}
+use Rattle.etru.proofs.sets.reduced_modulo_2.Statement.{statement}
+use Rattle.etru.proofs.sets.reduced_modulo_2.Tie as tie
+
+abbrev test : List ℤ → ℕ → Bool
+test x i = same (mod2 (coefficient x i)) (coefficient x i)
+
+abbrev Inv-loop : tie.InvT-loop
+Inv-loop x n i₀ i = (i ≤ n) × (all i (test x) ≡ true)
+
+abbrev μ-loop : tie.MeasureT-loop
+μ-loop x n i₀ i = n - i
+
+pub reduced-modulo-2-spec : {M : Type 1} → statement M
+unfolding reduced2
+reduced-modulo-2-spec =
+    tie.close
+    (tie.spec
+    Inv-loop
+    μ-loop
+    (λ c. (omega arith, all-none (test (c .args .x .now))))
+    (λ c κs. (omega arith, omega arith))
+    (λ c.
+    let l = c .before .before .before in
+    sym (all-fails (l .before .args .n) (l .loop .i) (test (l .before .args .x .now)) (c .before .before .loop-test .taken) (sym (c .before .own-remainder-2-at .ensures) ∙ not-true _ (c .if1 .taken))))
+    (λ c. omega arith)
+    (λ c. omega arith)
+    (λ c.
+    let l = c .before .before .before in
+    (omega (arith, c .before .before .loop-test .taken), all-more (test (l .before .args .x .now)) (l .loop .i) (l .loop .inv .1) (sym (c .before .own-remainder-2-at .ensures) ∙ not-false _ (c .if1 .left))))
+    (λ c.
+    let l = c .before in
+    let e : l .loop .i ≡ l .before .args .n = omega (arith, l .loop .inv .0, c .loop-test .left) in
+    sym (ap (λ (k : ℕ). all k (test (l .before .args .x .now))) (sym e) ∙ l .loop .inv .1)))
