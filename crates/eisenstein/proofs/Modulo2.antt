@@ -30,7 +30,7 @@ halved (negsuc n) = ap (λ (m : ℕ). negℤ (pos m)) {x = suc n} {y = 2 * (suc 
     split : (h r : ℤ) → negℤ ((pos 2 *ℤ h) +ℤ r) ≡ r +ℤ (negℤ (h +ℤ r) +ℤ negℤ (h +ℤ r))
     split = ring 2 (λ h r. ⊖ (con (pos 2) ⊗ h ⊕ r) ⊜ r ⊕ (⊖ (h ⊕ r) ⊕ ⊖ (h ⊕ r))) tt
 
-bit-lt : (z : ℤ) → bit z < 2
+pub bit-lt : (z : ℤ) → bit z < 2
 unfolding bit
 bit-lt z = omega arith
 

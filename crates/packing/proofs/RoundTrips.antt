@@ -175,7 +175,7 @@ packed-bit N message k l =
         ∙ bits .1
         ∙ ap (bitOf message) {x = 2 * (k / 2) + 1} {y = k} (omega arith)
 
-past-bit : (N : ℕ) (m : Polynomial) (k : ℕ) → 2 * N ≤ k → messageBit N m k ≡ 0
+pub past-bit : (N : ℕ) (m : Polynomial) (k : ℕ) → 2 * N ≤ k → messageBit N m k ≡ 0
 unfolding messageBit
 past-bit N m k l =
     ap (λ (c : Bool). cond c (bit (cond (eqb (k % 2) 0) (m (k / 2) .a) (m (k / 2) .b))) 0) (le-ltb k (2 * N) l)
@@ -335,3 +335,39 @@ packing-undoes-unpacking N m message e =
     ∙ passed 15 _ _ (is-unset (spareBitSet N message) (subst (λ (l : List ℕ). T (not (spareBitSet N l))) v (unpacked-spare N (coefficient m))))
     ∙ none-left _
     ∙ ap done (array-same N (λ i l. ap (λ (x : List ℕ). packed x i) (sym v) ∙ unpacked-packs N (coefficient m) (r .0) i l) ∙ array-coefficients N m n)
+
+-- ---- for the code: bits of an array, and bytes known one by one
+
+pub bit-of-array : (N : ℕ) (m : List ℤ) (k : ℕ) → k < 2 * N → messageBit N (coefficient m) k ≡ bit (getD m k (pos 0))
+unfolding messageBit coefficient
+bit-of-array N m k l =
+    ap (λ (c : Bool). cond c (bit (cond (eqb (k % 2) 0) (coefficient m (k / 2) .a) (coefficient m (k / 2) .b))) 0) (lt-ltb k (2 * N) l)
+    ∙ by-place (ℕ-discrete (k % 2) 0)
+  where
+    by-place : Dec (k % 2 ≡ 0) → bit (cond (eqb (k % 2) 0) (getD m (2 * (k / 2)) (pos 0)) (getD m (2 * (k / 2) + 1) (pos 0))) ≡ bit (getD m k (pos 0))
+    by-place (yes e) =
+        ap (λ (c : Bool). bit (cond c (getD m (2 * (k / 2)) (pos 0)) (getD m (2 * (k / 2) + 1) (pos 0)))) (eq-eqb (k % 2) 0 e)
+        ∙ ap (λ (i : ℕ). bit (getD m i (pos 0))) {x = 2 * (k / 2)} {y = k} (omega arith)
+    by-place (no e) =
+        ap (λ (c : Bool). bit (cond c (getD m (2 * (k / 2)) (pos 0)) (getD m (2 * (k / 2) + 1) (pos 0)))) (ne-eqb (k % 2) 0 e)
+        ∙ ap (λ (i : ℕ). bit (getD m i (pos 0))) {x = 2 * (k / 2) + 1} {y = k} (omega arith)
+
+pub unpacked-by-bytes : (N : ℕ) (m : Polynomial) (l : List ℕ) → length l ≡ messageBytes N → ((j : ℕ) → j < messageBytes N → getD l j 0 ≡ byte (messageBit N m) j) → l ≡ unpacked N m
+unfolding unpacked
+unpacked-by-bytes N m l e h =
+    ext-getD 0 l (unpacked N m) (e ∙ sym (unpacked-length N m)) (λ j p. let q : j < messageBytes N = omega arith in h j q ∙ sym (listed-at (messageBytes N) (byte (messageBit N m)) j q))
+
+-- a pair that is not 11, and 11
+pub pair-11 : (a b : ℕ) → a ≡ 1 → b ≡ 1 → pair a b ≡ value (negsuc 0) (negsuc 0)
+unfolding pair
+pair-11 a b e f = ap₂ (λ (u v : ℕ). cond (eqb u 1 && eqb v 1) (value (negsuc 0) (negsuc 0)) (value (pos u) (pos v))) e f
+
+pub pair-other : (a b : ℕ) → a < 2 → b < 2 → (a + b ≡ 2 → ⊥) → pair a b ≡ value (pos a) (pos b)
+unfolding pair
+pair-other zero zero p q h = refl
+pair-other zero (suc zero) p q h = refl
+pair-other zero (suc (suc b)) p q h = absurd (omega arith)
+pair-other (suc zero) zero p q h = refl
+pair-other (suc zero) (suc zero) p q h = absurd (h refl)
+pair-other (suc zero) (suc (suc b)) p q h = absurd (omega arith)
+pair-other (suc (suc a)) b p q h = absurd (omega arith)
