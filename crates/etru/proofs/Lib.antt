@@ -1,3 +1,4 @@
 pub mod Scans
+pub mod Sizes
 pub mod Correctness
 pub mod Demand3

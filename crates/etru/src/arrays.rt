@@ -41,7 +41,7 @@ pub(crate) fn dot(x: &[i32], y: &[i32], from: usize, to: usize, base: usize) -> 
     requires { ⌜ (from ≤ to) × (to ≤ 1024) × (to ≤ base + 1) × (2 * to ≤ length (now x)) × (2 * (base + 1 - from) ≤ length (now y)) × (base < 2048) ⌝ }
     requires { ⌜ ((i : ℕ) → natAbs (getD (now x) i (pos 0)) ≤ 2 ^ 13) ⌝ }
     requires { ⌜ ((i : ℕ) → natAbs (getD (now y) i (pos 0)) ≤ 2 ^ 13) ⌝ }
-    ensures { λ r. ⌜ (value (r .a) (r .b) ≡ sum (to - from) (λ j. coefficient (now (x .entry)) (from + j) *ω coefficient (now (y .entry)) (base - (from + j)))) × (natAbs (r .a) ≤ 2 ^ 38) × (natAbs (r .b) ≤ 2 ^ 38) ⌝ }
+    ensures { λ r. ⌜ (value (r .a) (r .b) ≡ sum (to - from) (λ j. coefficient (now (x .entry)) (from + j) *ω coefficient (now (y .entry)) (base - (from + j)))) × (natAbs (r .a) ≤ (to - from) * 2 ^ 28) × (natAbs (r .b) ≤ (to - from) * 2 ^ 28) ⌝ }
 {
     let mut a: i64 = 0;
     let mut b: i64 = 0;

@@ -1,5 +1,7 @@
 // The scheme: convolution modulo q, key check, sealing and opening.
 mod arrays;
+mod inverses;
 mod messages;
 mod products;
+mod sealed;
 mod sets;

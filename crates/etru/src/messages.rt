@@ -32,7 +32,7 @@ pub(crate) fn spare_bit_set(n: usize, message: &[u8]) -> bool
 }
 
 // The coefficient of pair i.
-fn pair_of(message: &[u8], i: usize) -> Pair
+pub(crate) fn pair_of(message: &[u8], i: usize) -> Pair
     requires { ⌜ (i < 1024) × ((2 * i + 1) / 8 < length (now message)) ⌝ }
     ensures { λ r. ⌜ value (r .a) (r .b) ≡ packed (now (message .entry)) i ⌝ }
 {

@@ -18,7 +18,7 @@ pub(crate) fn coefficient_of(x: &[i32], y: &[i32], n: usize, i: usize) -> Wide
     requires { ⌜ (i < n) × (n ≤ 1024) × (length (now x) ≡ 2 * n) × (length (now y) ≡ 2 * n) ⌝ }
     requires { ⌜ ((k : ℕ) → natAbs (getD (now x) k (pos 0)) ≤ 2 ^ 13) ⌝ }
     requires { ⌜ ((k : ℕ) → natAbs (getD (now y) k (pos 0)) ≤ 2 ^ 13) ⌝ }
-    ensures { λ r. ⌜ (value (r .a) (r .b) ≡ convolution n (coefficient (now (x .entry))) (coefficient (now (y .entry))) i) × (natAbs (r .a) ≤ 2 ^ 39) × (natAbs (r .b) ≤ 2 ^ 39) ⌝ }
+    ensures { λ r. ⌜ (value (r .a) (r .b) ≡ convolution n (coefficient (now (x .entry))) (coefficient (now (y .entry))) i) × (natAbs (r .a) ≤ 2 ^ 38) × (natAbs (r .b) ≤ 2 ^ 38) ⌝ }
 {
     let low = crate::arrays::dot(x, y, 0, i + 1, i);
     let high = crate::arrays::dot(x, y, i + 1, n, i + n);

@@ -7,10 +7,10 @@ ghost use lib.ListN.{length};
 ghost use Rattle.eisenstein.specs.Values.{value, 𝟘, units, same};
 ghost use Rattle.eisenstein.specs.Reduction.{modQ, mod2};
 ghost use Rattle.eisenstein.specs.Calls.{beyond};
-ghost use Rattle.polynomials.specs.Polynomials.{coefficient, sum, one, all, count, nonzero, among, unitsOnly, unitsOfSumZero, reducedQ, reduced2};
+ghost use Rattle.polynomials.specs.Polynomials.{coefficient, sum, all, count, nonzero, among, unitsOnly, unitsOfSumZero, reducedQ, reduced2};
 use crate::arrays::at;
 
-fn equal(a: i64, b: i64, c: i64, d: i64) -> bool
+pub(crate) fn equal(a: i64, b: i64, c: i64, d: i64) -> bool
     ensures { λ r. ⌜ r ≡ same (value a b) (value c d) ⌝ }
 {
     if a == c {
@@ -83,18 +83,6 @@ fn own_remainder_2_at(x: &[i32], i: usize) -> bool
     let ra = r.a;
     let rb = r.b;
     equal(ra as i64, rb as i64, a, b)
-}
-
-fn one_at(x: &[i32], i: usize) -> bool
-    requires { ⌜ (i < 1024) × (2 * i + 1 < length (now x)) ⌝ }
-    ensures { λ r. ⌜ r ≡ same (coefficient (now (x .entry)) i) (one i) ⌝ }
-{
-    let a = at(x, 2 * i);
-    let b = at(x, 2 * i + 1);
-    if i == 0 {
-        return equal(a, b, 1, 0);
-    }
-    equal(a, b, 0, 0)
 }
 
 fn count_nonzero(x: &[i32], n: usize) -> usize
@@ -182,20 +170,6 @@ pub(crate) fn reduced_modulo_2(x: &[i32], n: usize) -> bool
     let mut i = 0;
     while i < n {
         if !own_remainder_2_at(x, i) {
-            return false;
-        }
-        i += 1;
-    }
-    true
-}
-
-pub(crate) fn is_one(x: &[i32], n: usize) -> bool
-    requires { ⌜ (n ≤ 1024) × (length (now x) ≡ 2 * n) ⌝ }
-    ensures { λ r. ⌜ r ≡ all n (λ i. same (coefficient (now (x .entry)) i) (one i)) ⌝ }
-{
-    let mut i = 0;
-    while i < n {
-        if !one_at(x, i) {
             return false;
         }
         i += 1;

@@ -1,11 +1,13 @@
 -- `coefficient_of` meets its contract.
-use mathlib.Core.Path.{_≡_, sym, _∙_, ap₂}
+use mathlib.Core.Path.{_≡_, sym, _∙_, ap₂, subst}
 use mathlib.Core.List.{List, [], _∷_}
-use Prim.Native.Nat.{_^_}
+use Prim.Native.Nat.{_≤_, _^_}
 use native.Mathlib.Omega.{arith}
+use lib.IntN.{ℤ, natAbs}
 use mir.Syntax.{w64}
+use Rattle.integers.proofs.Absolute.{natAbs-+}
 use Rattle.integers.proofs.Ring.{Expr, var, _⊕_}
-use Rattle.integers.proofs.Machine.{Leaf, given, fits, exact, size-read}
+use Rattle.integers.proofs.Machine.{Leaf, given, fits, exact}
 use Rattle.eisenstein.specs.Values.{ℤ[ω], value, _+ω_}
 use Rattle.polynomials.specs.Polynomials.{coefficient}
 use Rattle.polynomials.proofs.Eisenstein.{convolution-split}
@@ -14,10 +16,10 @@ use Rattle.etru.proofs.products.coefficient_of.Tie as tie
 
 abbrev ρ : tie.After-dot2 → List Leaf
 ρ c =
-    given (c .before .dot .result .a) (2 ^ 38) (c .before .dot .ensures .1)
-    ∷ given (c .before .dot .result .b) (2 ^ 38) (c .before .dot .ensures .2)
-    ∷ given (c .dot2 .result .a) (2 ^ 38) (c .dot2 .ensures .1)
-    ∷ given (c .dot2 .result .b) (2 ^ 38) (c .dot2 .ensures .2)
+    given (c .before .dot .result .a) (2 ^ 38) (omega (arith, c .before .dot .ensures .1, c .before .before .pre .0))
+    ∷ given (c .before .dot .result .b) (2 ^ 38) (omega (arith, c .before .dot .ensures .2, c .before .before .pre .0))
+    ∷ given (c .dot2 .result .a) (2 ^ 38) (omega (arith, c .dot2 .ensures .1, c .before .before .pre .0))
+    ∷ given (c .dot2 .result .b) (2 ^ 38) (omega (arith, c .dot2 .ensures .2, c .before .before .pre .0))
     ∷ []
 
 abbrev a : Expr
@@ -34,8 +36,8 @@ returns c =
       ap₂ value (exact w64 (ρ d) a tt) (exact w64 (ρ d) b tt)
           ∙ ap₂ _+ω_ (d .before .dot .ensures .0) (d .dot2 .ensures .0)
           ∙ sym (convolution-split (s .args .n) (coefficient (s .args .x .now)) (coefficient (s .args .y .now)) (s .args .i) (s .pre .0 .0)),
-      size-read w64 (ρ d) a (2 ^ 39) tt tt,
-      size-read w64 (ρ d) b (2 ^ 39) tt tt,
+      subst (λ (z : ℤ). natAbs z ≤ 2 ^ 38) (sym (exact w64 (ρ d) a tt)) (omega (arith, natAbs-+ (d .before .dot .result .a) (d .dot2 .result .a), d .before .dot .ensures .1, d .dot2 .ensures .1, s .pre .0)),
+      subst (λ (z : ℤ). natAbs z ≤ 2 ^ 38) (sym (exact w64 (ρ d) b tt)) (omega (arith, natAbs-+ (d .before .dot .result .b) (d .dot2 .result .b), d .before .dot .ensures .2, d .dot2 .ensures .2, s .pre .0)),
     )
 
 pub coefficient-of-spec : {M : Type 1} → statement M

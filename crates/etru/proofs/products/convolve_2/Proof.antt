@@ -26,10 +26,10 @@ abbrev μ-loop : tie.MeasureT-loop
 μ-loop x y n out₀ i₀ out i = n - i
 
 -- a sum as it is handed to the reduction
-back : (z : ℤ) → natAbs z ≤ 2 ^ 39 → toZ w64 (ofZ w64 z) ≡ z
+back : (z : ℤ) → natAbs z ≤ 2 ^ 38 → toZ w64 (ofZ w64 z) ≡ z
 back z h = toZ-ofZ (sfits-within z h (lit< tt))
 
-small : (z : ℤ) → natAbs z ≤ 2 ^ 39 → natAbs (toZ w64 (ofZ w64 z)) ≤ 2 ^ 40
+small : (z : ℤ) → natAbs z ≤ 2 ^ 38 → natAbs (toZ w64 (ofZ w64 z)) ≤ 2 ^ 40
 small z h = subst (λ (y : ℤ). natAbs y ≤ 2 ^ 40) (sym (back z h)) (le-trans h (lit≤ tt))
 
 loop-again : tie.Need-loop-again Inv-loop μ-loop

@@ -30,10 +30,10 @@ q-read : (c : tie.Start Inv-loop μ-loop) → value (toZ w32 (ofZ w32 (c .args .
 q-read c = ap₂ value (toZ-ofZ (c .fits .c)) (toZ-ofZ (c .fits .d))
 
 -- a sum as it is handed to the reduction
-back : (z : ℤ) → natAbs z ≤ 2 ^ 39 → toZ w64 (ofZ w64 z) ≡ z
+back : (z : ℤ) → natAbs z ≤ 2 ^ 38 → toZ w64 (ofZ w64 z) ≡ z
 back z h = toZ-ofZ (sfits-within z h (lit< tt))
 
-small : (z : ℤ) → natAbs z ≤ 2 ^ 39 → natAbs (toZ w64 (ofZ w64 z)) ≤ 2 ^ 40
+small : (z : ℤ) → natAbs z ≤ 2 ^ 38 → natAbs (toZ w64 (ofZ w64 z)) ≤ 2 ^ 40
 small z h = subst (λ (y : ℤ). natAbs y ≤ 2 ^ 40) (sym (back z h)) (le-trans h (lit≤ tt))
 
 loop-again : tie.Need-loop-again Inv-loop μ-loop

@@ -1,0 +1,81 @@
+-- How large the numbers of an array can be, from the test that it passed.
+use mathlib.Core.Path.{_≡_, refl, sym, _∙_, ap, subst}
+use mathlib.Core.Bool.{false}
+use mathlib.Core.List.{List}
+use mathlib.Core.Logic.{_≢_}
+use Prim.Native.Nat.{ℕ, _+_, _*_, _/_, _%_, _^_, _≤_, _<_}
+use native.Mathlib.Omega.{arith}
+use native.Mathlib.Nat.{le-trans}
+use native.Mathlib.Decide.{ℕ-discrete, decLe}
+use lib.Dec.{T, lit<, lit≤}
+use lib.IntN.{ℤ, pos, natAbs}
+use lib.ListN.{length, getD, List·getD-eq-default}
+use mir.Syntax.{w64}
+use mir.Val.{toZ, ofZ}
+use mir.Facts.{toZ-ofZ}
+use Rattle.integers.proofs.Machine.{sfits-within}
+use Rattle.integers.proofs.Absolute.{square-le}
+use Rattle.eisenstein.specs.Values.{ℤ[ω], value, 𝟘, norm}
+use Rattle.eisenstein.specs.Reduction.{modQ}
+use Rattle.eisenstein.specs.Calls.{beyond}
+use Rattle.eisenstein.proofs.Limits.{within}
+use Rattle.eisenstein.proofs.Norms.{part-a, part-b}
+use Rattle.eisenstein.proofs.Remainders.{modQ-is-remainder, remainder-size}
+use Rattle.polynomials.specs.Polynomials.{Polynomial, coefficient, array, unitsOnly, reducedQ, reduced2}
+use Rattle.polynomials.proofs.Arrays.{coefficient-array, array-length}
+use Rattle.polynomials.proofs.Bounds.{Within}
+use Rattle.polynomials.proofs.Members.{units-within, reducedQ-at, reduced2-within}
+
+-- ---- a number as it is handed to a callee
+
+pub read-64 : (z : ℤ) → natAbs z ≤ 2 ^ 40 → toZ w64 (ofZ w64 z) ≡ z
+read-64 z h = toZ-ofZ (sfits-within z h (lit< tt))
+
+pub small-64 : (z : ℤ) → natAbs z ≤ 2 ^ 40 → natAbs (toZ w64 (ofZ w64 z)) ≤ 2 ^ 40
+small-64 z h = subst (λ (y : ℤ). natAbs y ≤ 2 ^ 40) (sym (read-64 z h)) h
+
+-- ---- every number of an array, from its coefficients
+
+abbrev pub Small : List ℤ → Type 0
+Small l = (k : ℕ) → natAbs (getD l k (pos 0)) ≤ 2 ^ 13
+
+abbrev PartsSmall : ℤ[ω] → Type 0
+PartsSmall x = (natAbs (x .a) ≤ 2 ^ 13) × (natAbs (x .b) ≤ 2 ^ 13)
+
+from-parts : (N : ℕ) (l : List ℤ) → length l ≡ 2 * N → ((i : ℕ) → i < N → PartsSmall (coefficient l i)) → Small l
+unfolding coefficient
+from-parts N l e h k = go (decLe (2 * N) k)
+  where
+    at : (j : ℕ) → j ≡ k → natAbs (getD l j (pos 0)) ≤ 2 ^ 13 → natAbs (getD l k (pos 0)) ≤ 2 ^ 13
+    at j f = subst (λ (m : ℕ). natAbs (getD l m (pos 0)) ≤ 2 ^ 13) f
+
+    parity : Dec (k % 2 ≡ 0) → k < 2 * N → natAbs (getD l k (pos 0)) ≤ 2 ^ 13
+    parity (yes z) p = at (2 * (k / 2)) (omega arith) (h (k / 2) (omega arith) .0)
+    parity (no z) p = at (2 * (k / 2) + 1) (omega arith) (h (k / 2) (omega arith) .1)
+
+    go : Dec (2 * N ≤ k) → natAbs (getD l k (pos 0)) ≤ 2 ^ 13
+    go (yes p) = subst (λ (z : ℤ). natAbs z ≤ 2 ^ 13) (sym (List·getD-eq-default l (pos 0) (omega arith))) (lit≤ tt)
+    go (no p) = parity (ℕ-discrete (k % 2) 0) (omega arith)
+
+within-one : (x : ℤ[ω]) → Within 1 x → PartsSmall x
+within-one x w =
+    (le-trans {m = 1} (square-le (omega (arith, part-a x, w .within))) (lit≤ tt), le-trans {m = 1} (square-le (omega (arith, part-b x, w .within))) (lit≤ tt))
+
+pub units-small : (N t : ℕ) (l : List ℤ) → length l ≡ 2 * N → T (unitsOnly N t (coefficient l)) → Small l
+units-small N t l e u = from-parts N l e (λ i p. within-one (coefficient l i) (units-within N t (coefficient l) u i p))
+
+pub reduced2-small : (N : ℕ) (l : List ℤ) → length l ≡ 2 * N → T (reduced2 N (coefficient l)) → Small l
+reduced2-small N l e u = from-parts N l e (λ i p. within-one (coefficient l i) (reduced2-within N (coefficient l) u i p))
+
+-- ---- remainders modulo q
+
+modQ-small : (q x : ℤ[ω]) → beyond 4095 q ≡ false → q ≢ 𝟘 → PartsSmall (modQ q x)
+modQ-small q x b n =
+    let k = within 4095 q b in
+    remainder-size q x (modQ q x) n (k .0) (k .1) (modQ-is-remainder q x n)
+
+pub reducedQ-small : (N : ℕ) (q : ℤ[ω]) (l : List ℤ) → beyond 4095 q ≡ false → q ≢ 𝟘 → length l ≡ 2 * N → T (reducedQ N q (coefficient l)) → Small l
+reducedQ-small N q l b n e u = from-parts N l e (λ i p. subst PartsSmall (reducedQ-at N q (coefficient l) u i p) (modQ-small q (coefficient l i) b n))
+
+pub remainders-small : (N : ℕ) (q : ℤ[ω]) (x : Polynomial) → beyond 4095 q ≡ false → q ≢ 𝟘 → Small (array N (λ i. modQ q (x i)))
+remainders-small N q x b n = from-parts N (array N (λ i. modQ q (x i))) (array-length N (λ i. modQ q (x i))) (λ i p. subst PartsSmall (sym (coefficient-array N (λ i. modQ q (x i)) i p)) (modQ-small q (x i) b n))
