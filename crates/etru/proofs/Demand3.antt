@@ -26,7 +26,7 @@ use Rattle.polynomials.proofs.Members.{all-at, at-all, sum-zero-units}
 use Rattle.packing.specs.Messages.{messageBytes, packed, unpacked, spareBitSet}
 use Rattle.packing.proofs.RoundTrips.{packed-unpacks, packed-reduced, unpacked-same}
 use Rattle.etru.specs.Scheme.{publicKey, sealed, opened}
-use Rattle.etru.specs.Calls.{fullLength, keyCheck, sealing, opening}
+use Rattle.etru.specs.Calls.{full, keyChecks, keyCheck, sealingChecks, sealing, openingChecks, opening}
 use Rattle.etru.specs.Promises.{Setting}
 use Rattle.etru.specs.Demand3.{AcceptedKey, Ephemeral, Message, Opens, Demand-3}
 use Rattle.etru.proofs.Correctness.{of-equal, modQ-twice, opening-undoes-sealing}
@@ -95,18 +95,18 @@ pub record Key (p : ParameterSet) (f F2 Fq g h : List ℤ) : Type 0 where
   pub h-is : array (p .N) (publicKey p (coefficient Fq) (coefficient g)) ≡ h
 
 pub accepted-key : {p : ParameterSet} {f F2 Fq g h : List ℤ} → AcceptedKey p f F2 Fq g h → Key p f F2 Fq g h
-unfolding keyCheck
+unfolding keyCheck keyChecks
 accepted-key {p} {f} {F2} {Fq} {g} {h} a =
     let (c, k) = done-all (parameterChecks p) _ _ _ (a .accepted) in
-    let k7 = done-holds 7 (fullLength p (length f) && (fullLength p (length F2) && (fullLength p (length Fq) && (fullLength p (length g) && fullLength p (2 * p .N))))) _ _ _ k in
+    let k7 = done-holds 7 (full (p .N) (length f) && (full (p .N) (length F2) && (full (p .N) (length Fq) && (full (p .N) (length g) && full (p .N) (2 * p .N))))) _ _ _ k in
     let k8 = done-holds 8 (unitsOnly (p .N) (p .t) (coefficient f)) _ _ _ (k7 .1) in
     let k11 = done-holds 11 (reduced2 (p .N) (coefficient F2)) _ _ _ (k8 .1) in
     let k12 = done-holds 12 (reducedQ (p .N) (p .q) (coefficient Fq)) _ _ _ (k11 .1) in
     let k9 = done-holds 9 (unitsOfSumZero (p .N) (p .s) (coefficient g)) _ _ _ (k12 .1) in
     let k13 = done-holds 13 (congruent2 (p .N) (convolution (p .N) (coefficient f) (coefficient F2)) one) _ _ _ (k9 .1) in
     let k14 = done-holds 14 (congruentQ (p .N) (p .q) (convolution (p .N) (coefficient f) (coefficient Fq)) one) _ _ _ (k13 .1) in
-    let l = and-yes (fullLength p (length f)) (fullLength p (length F2) && (fullLength p (length Fq) && (fullLength p (length g) && fullLength p (2 * p .N)))) (k7 .0) in
-    let m = and-yes (fullLength p (length F2)) (fullLength p (length Fq) && (fullLength p (length g) && fullLength p (2 * p .N))) (l .1) in
+    let l = and-yes (full (p .N) (length f)) (full (p .N) (length F2) && (full (p .N) (length Fq) && (full (p .N) (length g) && full (p .N) (2 * p .N)))) (k7 .0) in
+    let m = and-yes (full (p .N) (length F2)) (full (p .N) (length Fq) && (full (p .N) (length g) && full (p .N) (2 * p .N))) (l .1) in
     record {
       parameters = accepted-parameters p c;
       f-full = eqb→eq (length f) (2 * p .N) (l .0);
@@ -149,11 +149,11 @@ module _ {p : ParameterSet} {f F2 Fq g h φ : List ℤ} {message : List ℕ} (ke
   unset false x = refl
 
   seals : sealing p h φ message (2 * p .N) ≡ done e
-  unfolding sealing e
+  unfolding sealing sealingChecks e
   seals =
       passed-all (parameterChecks p) _ _ (key .parameters .checks)
-      ∙ holds-passed 7 (fullLength p (length h) && (fullLength p (length φ) && (eqb (length message) (messageBytes (p .N)) && fullLength p (2 * p .N)))) _ _
-      (equal-4 {d = 2 * p .N} h-full (ephemeral .full) (msg .full) refl)
+      ∙ holds-passed 7 (eqb (length message) (messageBytes (p .N)) && (full (p .N) (length h) && (full (p .N) (length φ) && full (p .N) (2 * p .N)))) _ _
+      (equal-4 {d = 2 * p .N} (msg .full) h-full (ephemeral .full) refl)
       ∙ holds-passed 12 (reducedQ (p .N) (p .q) (coefficient h)) _ _ h-reduced
       ∙ holds-passed 10 (unitsOfSumZero (p .N) (p .s) (coefficient φ)) _ _ (ephemeral .in-set)
       ∙ passed 15 _ _ (unset (spareBitSet (p .N) message) (msg .no-spare))
@@ -186,11 +186,11 @@ module _ {p : ParameterSet} {f F2 Fq g h φ : List ℤ} {message : List ℕ} (ke
   forms = unpacked-same (p .N) formed ∙ packed-unpacks (p .N) message (msg .bytes) (msg .full) (msg .no-spare)
 
   opens : opening p f F2 e (messageBytes (p .N)) ≡ done message
-  unfolding opening
+  unfolding opening openingChecks
   opens =
       passed-all (parameterChecks p) _ _ (key .parameters .checks)
-      ∙ holds-passed 7 (fullLength p (length f) && (fullLength p (length F2) && (fullLength p (length e) && eqb (messageBytes (p .N)) (messageBytes (p .N))))) _ _
-      (equal-4 {d = messageBytes (p .N)} (key .f-full) (key .F2-full) e-full refl)
+      ∙ holds-passed 7 (eqb (messageBytes (p .N)) (messageBytes (p .N)) && (full (p .N) (length f) && (full (p .N) (length F2) && full (p .N) (length e)))) _ _
+      (equal-4 {a = messageBytes (p .N)} refl (key .f-full) (key .F2-full) e-full)
       ∙ holds-passed 8 (unitsOnly (p .N) (p .t) (coefficient f)) _ _ (key .f-units)
       ∙ holds-passed 11 (reduced2 (p .N) (coefficient F2)) _ _ (key .F2-reduced)
       ∙ holds-passed 12 (reducedQ (p .N) (p .q) (coefficient e)) _ _ e-reduced

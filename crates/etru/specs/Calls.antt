@@ -6,6 +6,7 @@ use lib.Dec.{eqb}
 use lib.IntN.{ℤ}
 use lib.ListN.{length}
 use Rattle.refusals.specs.Outcomes.{Check, Outcome, outcome, _if_}
+use Rattle.eisenstein.specs.Values.{ℤ[ω]}
 use Rattle.eisenstein.specs.Reduction.{modQ}
 use Rattle.parameters.specs.Sets.{ParameterSet, parameterChecks}
 use Rattle.polynomials.specs.Polynomials.{coefficient, array, convolution, one, unitsOnly, unitsOfSumZero, reducedQ, reduced2, congruentQ, congruent2}
@@ -13,54 +14,59 @@ use Rattle.packing.specs.Messages.{messageBytes, packed, unpacked, spareBitSet}
 use Rattle.etru.specs.Scheme.{publicKey, sealed, opened}
 
 -- an array, or an output's room, of 2N numbers
-abbrev pub fullLength : ParameterSet → ℕ → Bool
-fullLength p n = eqb n (2 * p .N)
+abbrev pub full : ℕ → ℕ → Bool
+full N n = eqb n (2 * N)
 
 -- "Every operation below on a parameter set begins so, then 7." "Convolution modulo q: 12."
+unfoldable pub convolvingChecks : ℕ → ℤ[ω] → (x y : List ℤ) → ℕ → List Check
+convolvingChecks N q x y room =
+    7 if not (full N (length x) && (full N (length y) && full N room))
+    ∷ 12 if not (reducedQ N q (coefficient x) && reducedQ N q (coefficient y))
+    ∷ []
+
 unfoldable pub convolving : ParameterSet → (x y : List ℤ) → ℕ → Outcome (List ℤ)
 convolving p x y room =
-    outcome
-    (parameterChecks p
-    ++ 7 if not (fullLength p (length x) && (fullLength p (length y) && fullLength p room))
-    ∷ 12 if not (reducedQ (p .N) (p .q) (coefficient x) && reducedQ (p .N) (p .q) (coefficient y))
-    ∷ [])
+    outcome (parameterChecks p ++ convolvingChecks (p .N) (p .q) x y room)
     (array (p .N) (λ i. modQ (p .q) (convolution (p .N) (coefficient x) (coefficient y) i)))
 
 -- "Key check: 8, 11, 12, 9, 13, 14." It writes h.
-unfoldable pub keyCheck : ParameterSet → (f F2 Fq g : List ℤ) → ℕ → Outcome (List ℤ)
-keyCheck p f F2 Fq g room =
-    outcome
-    (parameterChecks p
-    ++ 7 if not (fullLength p (length f) && (fullLength p (length F2) && (fullLength p (length Fq) && (fullLength p (length g) && fullLength p room))))
+unfoldable pub keyChecks : ParameterSet → (f F2 Fq g : List ℤ) → ℕ → List Check
+keyChecks p f F2 Fq g room =
+    7 if not (full (p .N) (length f) && (full (p .N) (length F2) && (full (p .N) (length Fq) && (full (p .N) (length g) && full (p .N) room))))
     ∷ 8 if not (unitsOnly (p .N) (p .t) (coefficient f))
     ∷ 11 if not (reduced2 (p .N) (coefficient F2))
     ∷ 12 if not (reducedQ (p .N) (p .q) (coefficient Fq))
     ∷ 9 if not (unitsOfSumZero (p .N) (p .s) (coefficient g))
     ∷ 13 if not (congruent2 (p .N) (convolution (p .N) (coefficient f) (coefficient F2)) one)
     ∷ 14 if not (congruentQ (p .N) (p .q) (convolution (p .N) (coefficient f) (coefficient Fq)) one)
-    ∷ [])
-    (array (p .N) (publicKey p (coefficient Fq) (coefficient g)))
+    ∷ []
+
+unfoldable pub keyCheck : ParameterSet → (f F2 Fq g : List ℤ) → ℕ → Outcome (List ℤ)
+keyCheck p f F2 Fq g room =
+    outcome (parameterChecks p ++ keyChecks p f F2 Fq g room) (array (p .N) (publicKey p (coefficient Fq) (coefficient g)))
 
 -- "Sealing: h 12, φ 10, message 15."
+unfoldable pub sealingChecks : ℕ → ℤ[ω] → ℕ → (h φ : List ℤ) → (message : List ℕ) → ℕ → List Check
+sealingChecks N q s h φ message room =
+    7 if not (eqb (length message) (messageBytes N) && (full N (length h) && (full N (length φ) && full N room)))
+    ∷ 12 if not (reducedQ N q (coefficient h))
+    ∷ 10 if not (unitsOfSumZero N s (coefficient φ))
+    ∷ 15 if spareBitSet N message
+    ∷ []
+
 unfoldable pub sealing : ParameterSet → (h φ : List ℤ) → (message : List ℕ) → ℕ → Outcome (List ℤ)
 sealing p h φ message room =
-    outcome
-    (parameterChecks p
-    ++ 7 if not (fullLength p (length h) && (fullLength p (length φ) && (eqb (length message) (messageBytes (p .N)) && fullLength p room)))
-    ∷ 12 if not (reducedQ (p .N) (p .q) (coefficient h))
-    ∷ 10 if not (unitsOfSumZero (p .N) (p .s) (coefficient φ))
-    ∷ 15 if spareBitSet (p .N) message
-    ∷ [])
-    (array (p .N) (sealed p (coefficient h) (coefficient φ) (packed message)))
+    outcome (parameterChecks p ++ sealingChecks (p .N) (p .q) (p .s) h φ message room) (array (p .N) (sealed p (coefficient h) (coefficient φ) (packed message)))
 
 -- "Opening: f 8, F2 11, e 12."
+unfoldable pub openingChecks : ℕ → ℤ[ω] → ℕ → (f F2 e : List ℤ) → ℕ → List Check
+openingChecks N q t f F2 e room =
+    7 if not (eqb room (messageBytes N) && (full N (length f) && (full N (length F2) && full N (length e))))
+    ∷ 8 if not (unitsOnly N t (coefficient f))
+    ∷ 11 if not (reduced2 N (coefficient F2))
+    ∷ 12 if not (reducedQ N q (coefficient e))
+    ∷ []
+
 unfoldable pub opening : ParameterSet → (f F2 e : List ℤ) → ℕ → Outcome (List ℕ)
 opening p f F2 e room =
-    outcome
-    (parameterChecks p
-    ++ 7 if not (fullLength p (length f) && (fullLength p (length F2) && (fullLength p (length e) && eqb room (messageBytes (p .N)))))
-    ∷ 8 if not (unitsOnly (p .N) (p .t) (coefficient f))
-    ∷ 11 if not (reduced2 (p .N) (coefficient F2))
-    ∷ 12 if not (reducedQ (p .N) (p .q) (coefficient e))
-    ∷ [])
-    (unpacked (p .N) (opened p (coefficient f) (coefficient F2) (coefficient e)))
+    outcome (parameterChecks p ++ openingChecks (p .N) (p .q) (p .t) f F2 e room) (unpacked (p .N) (opened p (coefficient f) (coefficient F2) (coefficient e)))

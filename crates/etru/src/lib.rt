@@ -1,5 +1,6 @@
 // The scheme: convolution modulo q, key check, sealing and opening.
 mod arrays;
+mod checks;
 mod inverses;
 mod messages;
 mod products;

@@ -6,7 +6,7 @@ use mathlib.Core.Logic.{_≢_}
 use Prim.Native.Nat.{ℕ, zero, suc, _≤_, _<_}
 use native.Mathlib.Omega.{arith}
 use native.Mathlib.Decide.{ℕ-discrete}
-use lib.Dec.{T, eqb}
+use lib.Dec.{T, eqb, eqb→eq}
 use mir.Facts.{and-yes, yes-and, yes-eqb}
 
 abbrev pub every : (ℕ → Bool) → ℕ → Bool
@@ -30,3 +30,28 @@ pub equal-4 : {a a′ b b′ c c′ d d′ : ℕ} → a ≡ a′ → b ≡ b′ 
 equal-4 {a} {a′} {b} {b′} {c} {c′} {d} {d′} e f g h =
     yes-and (eqb a a′) (eqb b b′ && (eqb c c′ && eqb d d′)) (yes-eqb e)
     (yes-and (eqb b b′) (eqb c c′ && eqb d d′) (yes-eqb f) (equal-2 g h))
+
+-- the equations, from such a test
+
+pub are-equal-2 : (a a′ b b′ : ℕ) → T (eqb a a′ && eqb b b′) → (a ≡ a′) × (b ≡ b′)
+are-equal-2 a a′ b b′ t =
+    let p = and-yes (eqb a a′) (eqb b b′) t in
+    (eqb→eq a a′ (p .0), eqb→eq b b′ (p .1))
+
+pub are-equal-3 : (a a′ b b′ c c′ : ℕ) → T (eqb a a′ && (eqb b b′ && eqb c c′)) → (a ≡ a′) × (b ≡ b′) × (c ≡ c′)
+are-equal-3 a a′ b b′ c c′ t =
+    let p = and-yes (eqb a a′) (eqb b b′ && eqb c c′) t in
+    let r = are-equal-2 b b′ c c′ (p .1) in
+    (eqb→eq a a′ (p .0), r .0, r .1)
+
+pub are-equal-4 : (a a′ b b′ c c′ d d′ : ℕ) → T (eqb a a′ && (eqb b b′ && (eqb c c′ && eqb d d′))) → (a ≡ a′) × (b ≡ b′) × (c ≡ c′) × (d ≡ d′)
+are-equal-4 a a′ b b′ c c′ d d′ t =
+    let p = and-yes (eqb a a′) (eqb b b′ && (eqb c c′ && eqb d d′)) t in
+    let r = are-equal-3 b b′ c c′ d d′ (p .1) in
+    (eqb→eq a a′ (p .0), r .0, r .1, r .2)
+
+pub are-equal-5 : (a a′ b b′ c c′ d d′ e e′ : ℕ) → T (eqb a a′ && (eqb b b′ && (eqb c c′ && (eqb d d′ && eqb e e′)))) → (a ≡ a′) × (b ≡ b′) × (c ≡ c′) × (d ≡ d′) × (e ≡ e′)
+are-equal-5 a a′ b b′ c c′ d d′ e e′ t =
+    let p = and-yes (eqb a a′) (eqb b b′ && (eqb c c′ && (eqb d d′ && eqb e e′))) t in
+    let r = are-equal-4 b b′ c c′ d d′ e e′ (p .1) in
+    (eqb→eq a a′ (p .0), r .0, r .1, r .2, r .3)

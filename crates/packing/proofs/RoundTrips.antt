@@ -317,7 +317,7 @@ unpacking-undoes-packing N message m bytes e =
     let n : length message ≡ messageBytes N = eqb→eq _ _ (and-yes (eqb (length message) (messageBytes N)) (eqb (2 * N) (2 * N)) (q .0) .0) in
     let same : (i : ℕ) → i < N → packed message i ≡ coefficient m i = λ i l. sym (coefficient-array N (packed message) i l) ∙ ap (λ (x : List ℤ). coefficient x i) v in
     passed 1 _ _ (p .0)
-    ∙ holds-passed 7 (eqb (length m) (2 * N) && eqb (messageBytes N) (messageBytes N)) _ _ (equal-2 {b = messageBytes N} (ap length (sym v) ∙ array-length N (packed message)) refl)
+    ∙ holds-passed 7 (eqb (messageBytes N) (messageBytes N) && eqb (length m) (2 * N)) _ _ (equal-2 {a = messageBytes N} refl (ap length (sym v) ∙ array-length N (packed message)))
     ∙ holds-passed 11 (reduced2 N (coefficient m)) _ _ (reduced2-same N same (packed-reduced N message))
     ∙ none-left _
     ∙ ap done (unpacked-same N (λ i l. sym (same i l)) ∙ packed-unpacks N message bytes n (not-set (spareBitSet N message) (r .0)))
@@ -326,10 +326,10 @@ pub packing-undoes-unpacking : Packing-undoes-unpacking
 unfolding packing unpacking
 packing-undoes-unpacking N m message e =
     let p = done-passed 1 (outside 3 1024 N) _ _ _ e in
-    let q = done-holds 7 (eqb (length m) (2 * N) && eqb (messageBytes N) (messageBytes N)) _ _ _ (p .1) in
+    let q = done-holds 7 (eqb (messageBytes N) (messageBytes N) && eqb (length m) (2 * N)) _ _ _ (p .1) in
     let r = done-holds 11 (reduced2 N (coefficient m)) _ _ _ (q .1) in
     let v : unpacked N (coefficient m) ≡ message = done-value _ _ (r .1) in
-    let n : length m ≡ 2 * N = eqb→eq _ _ (and-yes (eqb (length m) (2 * N)) (eqb (messageBytes N) (messageBytes N)) (q .0) .0) in
+    let n : length m ≡ 2 * N = eqb→eq _ _ (and-yes (eqb (messageBytes N) (messageBytes N)) (eqb (length m) (2 * N)) (q .0) .1) in
     passed 1 _ _ (p .0)
     ∙ holds-passed 7 (eqb (length message) (messageBytes N) && eqb (2 * N) (2 * N)) _ _ (equal-2 {b = 2 * N} (ap length (sym v) ∙ unpacked-length N (coefficient m)) refl)
     ∙ passed 15 _ _ (is-unset (spareBitSet N message) (subst (λ (l : List ℕ). T (not (spareBitSet N l))) v (unpacked-spare N (coefficient m))))

@@ -25,7 +25,7 @@ unfoldable pub unpacking : ℕ → List ℤ → ℕ → Outcome (List ℕ)
 unpacking N m room =
     outcome
     (1 if outside 3 1024 N
-    ∷ 7 if not (eqb (length m) (2 * N) && eqb room (messageBytes N))
+    ∷ 7 if not (eqb room (messageBytes N) && eqb (length m) (2 * N))
     ∷ 11 if not (reduced2 N (coefficient m))
     ∷ [])
     (unpacked N (coefficient m))

@@ -108,6 +108,12 @@ unfolding outcome carried
 outcome-carried f [] a = refl
 outcome-carried f (c ∷ cs) a = ap (unless (c .applies) (c .number)) (outcome-carried f cs a) ∙ sym (carried-unless f (c .applies) (c .number) (outcome cs a))
 
+pub done-with : {A : Type 0} (cs : List Check) (a : A) → outcome cs (tt {0}) ≡ done (tt {0}) → outcome cs a ≡ done a
+done-with cs a e = outcome-carried (λ _. a) cs (tt {0}) ∙ ap (carried (λ _. a)) e ∙ carried-done (λ _. a) (tt {0})
+
+pub refused-with : {A : Type 0} (cs : List Check) (a : A) (n : ℕ) → outcome cs (tt {0}) ≡ refused n → outcome cs a ≡ refused n
+refused-with cs a n e = outcome-carried (λ _. a) cs (tt {0}) ∙ ap (carried (λ _. a)) e ∙ carried-refused (λ _. a) n
+
 number-carried : {A B : Type 0} (f : A → B) (o : Outcome A) → number (carried f o) ≡ number o
 unfolding carried
 number-carried f (done a) = refl

@@ -1,0 +1,21 @@
+-- `full_with_message` meets its contract.
+use mathlib.Core.Path.{sym, _∙_, ap}
+use mathlib.Core.Bool.{Bool, _&&_}
+use borrow.Author.Needs.{needs}
+use borrow.Author.Tests.{eq-eqb, ne-eqb}
+use Rattle.etru.specs.Calls.{full}
+use Rattle.etru.proofs.checks.full_with_message.Statement.{statement}
+use Rattle.etru.proofs.checks.full_with_message.Tie as tie
+
+-- the tests after the first
+abbrev rest : tie.Start → Bool
+rest s = full (s .args .n) (s .args .x) && (full (s .args .n) (s .args .y) && full (s .args .n) (s .args .z))
+
+pub full-with-message-spec : {M : Type 1} → statement M
+full-with-message-spec =
+    tie.close
+    (tie.spec
+    (λ c. search needs)
+    (λ c κs. search needs)
+    (λ c. c .full-3 .ensures ∙ sym (ap (λ (t : Bool). t && rest (c .before .before)) (eq-eqb _ _ (c .before .if1 .taken))))
+    (λ c. sym (ap (λ (t : Bool). t && rest (c .before)) (ne-eqb _ _ (c .if1 .left)))))
