@@ -3,6 +3,7 @@ mod arrays;
 mod checks;
 mod inverses;
 mod messages;
+mod opened;
 mod products;
 mod sealed;
 mod sets;

@@ -1,8 +1,10 @@
 -- Z[ω] as a ring, its classes modulo q as a congruence, and the definitions' sums and convolution as those of the algebra.
 use mathlib.Core.Path.{_≡_, refl, sym, _∙_, ap, ap₂}
+use mathlib.Core.Bool.{cond}
 use Prim.Native.Nat.{ℕ, zero, suc, _+_, _-_, _%_, _<_}
 use native.Mathlib.Omega.{arith}
 use native.Mathlib.Nat.{add-zero, add-suc, add-mod-right, mod-eq-of-lt}
+use lib.Dec.{eqb}
 use lib.IntN.{pos}
 use Rattle.eisenstein.specs.Values.{ℤ[ω], value, 𝟘, _+ω_, _-ω_, _*ω_, Congruent}
 use Rattle.eisenstein.proofs.Solver.{ringω, _≐_, _⊞_, _⊟_, _⊠_, conω}
@@ -82,6 +84,10 @@ one-is i = refl
 
 pub sum-same : (n : ℕ) {x y : Polynomial} → ((i : ℕ) → i < n → x i ≡ y i) → sum n x ≡ sum n y
 sum-same n {x} {y} h = sum-is n x ∙ total-same ring n h ∙ sym (sum-is n y)
+
+pub convolution-same : (N : ℕ) {x x′ y y′ : Polynomial} → ((j : ℕ) → j < N → x j ≡ x′ j) → ((k : ℕ) → k < N → y k ≡ y′ k) → (i : ℕ) → convolution N x y i ≡ convolution N x′ y′ i
+unfolding convolution
+convolution-same N h g i = sum-same N (λ j l. sum-same N (λ k m. ap₂ (λ (u v : ℤ[ω]). cond (eqb ((j + k) % N) i) (u *ω v) 𝟘) (h j l) (g k m)))
 
 pub sum-split : (m n : ℕ) (x : Polynomial) → sum (m + n) x ≡ sum m x +ω sum n (λ j. x (m + j))
 unfolding sum
