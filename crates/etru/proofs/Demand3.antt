@@ -14,12 +14,11 @@ use Rattle.refusals.specs.Outcomes.{Outcome, done, outcome}
 use Rattle.refusals.proofs.Checks.{passed, holds-passed, none-left, done-passed, done-holds, done-value, done-all, passed-all}
 use Rattle.eisenstein.specs.Values.{ℤ[ω], value, 𝟘, norm, _+ω_, Congruent, same}
 use Rattle.eisenstein.specs.Reduction.{modQ, mod2}
-use Rattle.eisenstein.specs.Calls.{beyond}
 use Rattle.eisenstein.proofs.Laws.{congruent-sym, congruent-trans}
 use Rattle.eisenstein.proofs.Equality.{same-yes, same-true}
 use Rattle.eisenstein.proofs.Remainders.{modQ-is-remainder}
 use Rattle.eisenstein.proofs.Modulo2.{mod2-in-class}
-use Rattle.parameters.specs.Sets.{ParameterSet, outside, even, bound, parameterChecks}
+use Rattle.parameters.specs.Sets.{ParameterSet, bound, parameterChecks}
 use Rattle.polynomials.specs.Polynomials.{Polynomial, coefficient, array, convolution, one, unitsOnly, unitsOfSumZero, reducedQ, reduced2, congruentQ, congruent2}
 use Rattle.polynomials.proofs.Arrays.{coefficient-array, array-length}
 use Rattle.polynomials.proofs.Members.{all-at, at-all, sum-zero-units}
@@ -29,28 +28,8 @@ use Rattle.etru.specs.Scheme.{publicKey, sealed, opened}
 use Rattle.etru.specs.Calls.{full, keyChecks, keyCheck, sealingChecks, sealing, openingChecks, opening}
 use Rattle.etru.specs.Promises.{Setting}
 use Rattle.etru.specs.Demand3.{AcceptedKey, Ephemeral, Message, Opens, Demand-3}
+use Rattle.etru.proofs.AcceptedParameters.{Accepted, accepted-parameters, modulus-nonzero}
 use Rattle.etru.proofs.Correctness.{of-equal, modQ-twice, opening-undoes-sealing}
-
--- ---- what accepted parameters give
-
-pub record Accepted (p : ParameterSet) : Type 0 where
-  pub checks : outcome (parameterChecks p) (tt {0}) ≡ done (tt {0})
-  pub below : bound p < norm (p .q)
-
-pub accepted-parameters : (p : ParameterSet) → outcome (parameterChecks p) (tt {0}) ≡ done (tt {0}) → Accepted p
-unfolding parameterChecks
-accepted-parameters p e =
-    let c1 = done-passed 1 (outside 3 1024 (p .N)) _ _ _ e in
-    let c2 = done-passed 2 (beyond 4095 (p .q)) _ _ _ (c1 .1) in
-    let c3 = done-passed 3 (even (p .q .a) && even (p .q .b)) _ _ _ (c2 .1) in
-    let c4 = done-passed 4 _ _ _ _ (c3 .1) in
-    let c5 = done-passed 5 (outside 1 (p .N) (p .t)) _ _ _ (c4 .1) in
-    let c6 = done-holds 6 (ltb (bound p) (norm (p .q))) _ _ _ (c5 .1) in
-    record { checks = e; below = ltb-yes (c6 .0) }
-
-pub modulus-nonzero : (p : ParameterSet) → Accepted p → p .q ≢ 𝟘
-unfolding norm
-modulus-nonzero p h e = omega (arith, ap norm e, h .below)
 
 -- ---- congruence from the tests
 

@@ -1,4 +1,13 @@
 // The scheme: convolution modulo q, key check, sealing and opening.
+// Each call ends with `Done`, or with document 01's first refusal that applies, and then its output is as it came.
+ghost use mathlib.Core.Path.{_≡_};
+ghost use lib.ListN.{length};
+ghost use Rattle.refusals.specs.Outcomes.{number, written};
+ghost use Rattle.refusals.specs.Numbers.{answered};
+ghost use Rattle.parameters.specs.Sets.{setOf};
+ghost use Rattle.etru.specs.Calls.{convolving, keyCheck, sealing, opening};
+
+mod accepted;
 mod arrays;
 mod checks;
 mod inverses;
@@ -7,3 +16,80 @@ mod opened;
 mod products;
 mod sealed;
 mod sets;
+
+use parameters::Parameters;
+use refusals::Answer;
+
+// x × y reduced modulo q, to out.
+pub fn convolve(p: Parameters, x: &[i32], y: &[i32], out: &mut [i32]) -> Answer
+    ensures { λ r. ⌜ (number (answered r) ≡ number (convolving (setOf p) (now (x .entry)) (now (y .entry)) (length (now (out .entry))))) × (now (out .exit) ≡ written (convolving (setOf p) (now (x .entry)) (now (y .entry)) (length (now (out .entry)))) (now (out .entry))) ⌝ }
+{
+    let n = p.n;
+    let c = p.c;
+    let d = p.d;
+    match p.check() {
+        Answer::Done => accepted::convolve(x, y, n as usize, c, d, out),
+        Answer::Refused(refusal) => Answer::Refused(refusal),
+    }
+}
+
+// Checks a key. The public key, Fq × g reduced modulo q, goes to h.
+pub fn check_key(
+    p: Parameters,
+    f: &[i32],
+    f2: &[i32],
+    fq: &[i32],
+    g: &[i32],
+    h: &mut [i32],
+) -> Answer
+    ensures { λ r. ⌜ (number (answered r) ≡ number (keyCheck (setOf p) (now (f .entry)) (now (f2 .entry)) (now (fq .entry)) (now (g .entry)) (length (now (h .entry))))) × (now (h .exit) ≡ written (keyCheck (setOf p) (now (f .entry)) (now (f2 .entry)) (now (fq .entry)) (now (g .entry)) (length (now (h .entry)))) (now (h .entry))) ⌝ }
+{
+    let n = p.n;
+    let c = p.c;
+    let d = p.d;
+    let s = p.s;
+    let t = p.t;
+    match p.check() {
+        Answer::Done => accepted::check_key(
+            f,
+            f2,
+            fq,
+            g,
+            n as usize,
+            c,
+            d,
+            s as usize,
+            t as usize,
+            h,
+        ),
+        Answer::Refused(refusal) => Answer::Refused(refusal),
+    }
+}
+
+// Seals a message with the public key h and the ephemeral φ, to e.
+pub fn seal(p: Parameters, h: &[i32], phi: &[i32], message: &[u8], e: &mut [i32]) -> Answer
+    ensures { λ r. ⌜ (number (answered r) ≡ number (sealing (setOf p) (now (h .entry)) (now (phi .entry)) (now (message .entry)) (length (now (e .entry))))) × (now (e .exit) ≡ written (sealing (setOf p) (now (h .entry)) (now (phi .entry)) (now (message .entry)) (length (now (e .entry)))) (now (e .entry))) ⌝ }
+{
+    let n = p.n;
+    let c = p.c;
+    let d = p.d;
+    let s = p.s;
+    match p.check() {
+        Answer::Done => accepted::seal(h, phi, message, n as usize, c, d, s as usize, e),
+        Answer::Refused(refusal) => Answer::Refused(refusal),
+    }
+}
+
+// Opens the sealed array e with the private key f and F2. The message goes to message. Takes 16 KiB of stack.
+pub fn open(p: Parameters, f: &[i32], f2: &[i32], e: &[i32], message: &mut [u8]) -> Answer
+    ensures { λ r. ⌜ (number (answered r) ≡ number (opening (setOf p) (now (f .entry)) (now (f2 .entry)) (now (e .entry)) (length (now (message .entry))))) × (now (message .exit) ≡ written (opening (setOf p) (now (f .entry)) (now (f2 .entry)) (now (e .entry)) (length (now (message .entry)))) (now (message .entry))) ⌝ }
+{
+    let n = p.n;
+    let c = p.c;
+    let d = p.d;
+    let t = p.t;
+    match p.check() {
+        Answer::Done => accepted::open(f, f2, e, n as usize, c, d, t as usize, message),
+        Answer::Refused(refusal) => Answer::Refused(refusal),
+    }
+}

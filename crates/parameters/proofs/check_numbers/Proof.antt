@@ -7,11 +7,12 @@ use lib.Dec.{T, ltb, eqb}
 use lib.IntN.{ℤ}
 use mir.Syntax.{w32}
 use mir.Val.{toZ, ofZ}
-use mir.Facts.{toZ-ofZ, or-no, ltb-no}
+use mir.Facts.{toZ-ofZ}
 use Rattle.refusals.proofs.Checks.{refused-by, passed, none-left}
 use Rattle.eisenstein.specs.Values.{ℤ[ω], value, norm}
 use Rattle.eisenstein.specs.Calls.{beyond}
 use Rattle.parameters.specs.Sets.{ParameterSet, set, outside, even, bound, parameterChecks}
+use Rattle.parameters.proofs.Ranges.{in-range}
 use Rattle.parameters.proofs.check_numbers.Statement.{statement}
 use Rattle.parameters.proofs.check_numbers.Tie as tie
 
@@ -43,11 +44,6 @@ unfolding bound
 test-6 c =
     let s = c .before .before .before .before .before .before .before .before .before .before .before in
     sym (c .not-below-norm .ensures ∙ q-read (λ u v. not (ltb (bound (P s)) (norm (value u v)))) s)
-
--- a number that is not outside of a range
-in-range : (low high n : ℕ) → outside low high n ≡ false → n ≤ high
-unfolding outside
-in-range low high n e = ltb-no (or-no (ltb n low) (ltb high n) (subst (λ (t : Bool). T (not t)) (sym e) tt) .1)
 
 or-false : (p r : Bool) → (p || r) ≡ false → p ≡ false
 or-false true r e = e
