@@ -3,20 +3,22 @@ use mathlib.Core.Path.{_≡_}
 use mathlib.Core.Bool.{Bool, false, _&&_}
 use mathlib.Core.List.{List}
 use mathlib.Core.Logic.{_≢_}
-use Prim.Native.Nat.{ℕ, _*_}
+use Prim.Native.Nat.{ℕ, _*_, _≤_}
 use lib.Dec.{T, eqb}
 use lib.IntN.{ℤ}
 use lib.ListN.{length}
 use mir.Facts.{and-yes}
-use Rattle.integers.proofs.Tests.{are-equal-3, are-equal-4, are-equal-5}
+use Rattle.integers.proofs.Tests.{are-equal-2, are-equal-3, are-equal-4, are-equal-5}
 use Rattle.refusals.specs.Outcomes.{done, outcome}
-use Rattle.refusals.proofs.Checks.{done-holds}
+use Rattle.refusals.proofs.Checks.{done-passed, done-holds}
 use Rattle.eisenstein.specs.Values.{ℤ[ω], 𝟘}
 use Rattle.eisenstein.specs.Calls.{beyond}
-use Rattle.parameters.specs.Sets.{ParameterSet}
+use Rattle.parameters.specs.Sets.{ParameterSet, outside}
+use Rattle.parameters.proofs.Ranges.{in-range}
 use Rattle.polynomials.specs.Polynomials.{coefficient, unitsOnly, unitsOfSumZero, reducedQ, reduced2}
 use Rattle.polynomials.proofs.Members.{sum-zero-units}
 use Rattle.packing.specs.Messages.{messageBytes}
+use Rattle.packing.specs.Calls.{packingChecks, unpackingChecks}
 use Rattle.etru.specs.Calls.{full, convolvingChecks, keyChecks, sealingChecks, openingChecks}
 use Rattle.etru.proofs.Sizes.{Small, units-small, reduced2-small, reducedQ-small}
 
@@ -103,3 +105,21 @@ key-passed p q-small q-nonzero f F2 Fq g room d =
       g-ready = record { long = l .3; small = units-small (p .N) (p .s) g (l .3) (sum-zero-units (p .N) (p .s) (coefficient g) (k9 .0)) };
       room-is = l .4;
     }
+
+-- ---- packing and unpacking
+
+pub packing-passed : (N : ℕ) (message : List ℕ) (room : ℕ) → outcome (packingChecks N message room) (tt {0}) ≡ done (tt {0}) → (N ≤ 1024) × (length message ≡ messageBytes N) × (room ≡ 2 * N)
+unfolding packingChecks
+packing-passed N message room e =
+    let k1 = done-passed 1 (outside 3 1024 N) _ _ _ e in
+    let k7 = done-holds 7 (eqb (length message) (messageBytes N) && eqb room (2 * N)) _ _ _ (k1 .1) in
+    let l = are-equal-2 (length message) (messageBytes N) room (2 * N) (k7 .0) in
+    (in-range 3 1024 N (k1 .0), l .0, l .1)
+
+pub unpacking-passed : (N : ℕ) (m : List ℤ) (room : ℕ) → outcome (unpackingChecks N m room) (tt {0}) ≡ done (tt {0}) → (N ≤ 1024) × (length m ≡ 2 * N) × (room ≡ messageBytes N)
+unfolding unpackingChecks
+unpacking-passed N m room e =
+    let k1 = done-passed 1 (outside 3 1024 N) _ _ _ e in
+    let k7 = done-holds 7 (eqb room (messageBytes N) && eqb (length m) (2 * N)) _ _ _ (k1 .1) in
+    let l = are-equal-2 room (messageBytes N) (length m) (2 * N) (k7 .0) in
+    (in-range 3 1024 N (k1 .0), l .1, l .0)

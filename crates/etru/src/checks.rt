@@ -12,6 +12,7 @@ ghost use Rattle.eisenstein.specs.Calls.{beyond};
 ghost use Rattle.parameters.specs.Sets.{set};
 ghost use Rattle.polynomials.specs.Polynomials.{coefficient, reducedQ};
 ghost use Rattle.packing.specs.Messages.{messageBytes};
+ghost use Rattle.packing.specs.Calls.{packingChecks, unpackingChecks};
 ghost use Rattle.etru.specs.Calls.{full, convolvingChecks, keyChecks, sealingChecks, openingChecks};
 use crate::inverses::is_one_2;
 use crate::inverses::is_one_q;
@@ -20,6 +21,7 @@ use crate::sets::reduced_modulo_2;
 use crate::sets::reduced_modulo_q;
 use crate::sets::units_of_sum_zero;
 use crate::sets::units_only;
+use parameters::Parameters;
 use refusals::Answer;
 use refusals::Refusal;
 
@@ -54,6 +56,17 @@ fn full_with_message(n: usize, message: usize, x: usize, y: usize, z: usize) -> 
 {
     if message == (n + 3) / 4 {
         return full_3(n, x, y, z);
+    }
+    false
+}
+
+// A message's length, and one array of full length.
+fn full_message_and_array(n: usize, message: usize, x: usize) -> bool
+    requires { ⌜ n ≤ 1024 ⌝ }
+    ensures { λ r. ⌜ r ≡ (eqb message (messageBytes n) && full n x) ⌝ }
+{
+    if message == (n + 3) / 4 {
+        return x == 2 * n;
     }
     false
 }
@@ -179,6 +192,36 @@ pub(crate) fn key_refusal(
     }
     if !is_one_q(f, fq, n, c, d) {
         return Answer::Refused(Refusal::NotInverseModuloQ);
+    }
+    Answer::Done
+}
+
+pub(crate) fn packing_refusal(n: u32, message: &[u8], room: usize) -> Answer
+    ensures { λ r. ⌜ answered r ≡ outcome (packingChecks n (now (message .entry)) room) tt ⌝ }
+{
+    if parameters::out_of_range(n, Parameters::MIN_N, Parameters::MAX_N) {
+        return Answer::Refused(Refusal::CoefficientCountOutOfRange);
+    }
+    if !full_message_and_array(n as usize, message.len(), room) {
+        return Answer::Refused(Refusal::WrongLength);
+    }
+    if spare_bit_set(n as usize, message) {
+        return Answer::Refused(Refusal::SpareBitSet);
+    }
+    Answer::Done
+}
+
+pub(crate) fn unpacking_refusal(n: u32, m: &[i32], room: usize) -> Answer
+    ensures { λ r. ⌜ answered r ≡ outcome (unpackingChecks n (now (m .entry)) room) tt ⌝ }
+{
+    if parameters::out_of_range(n, Parameters::MIN_N, Parameters::MAX_N) {
+        return Answer::Refused(Refusal::CoefficientCountOutOfRange);
+    }
+    if !full_message_and_array(n as usize, room, m.len()) {
+        return Answer::Refused(Refusal::WrongLength);
+    }
+    if !reduced_modulo_2(m, n as usize) {
+        return Answer::Refused(Refusal::NotReducedModulo2);
     }
     Answer::Done
 }

@@ -5,6 +5,7 @@ ghost use lib.ListN.{length};
 ghost use Rattle.refusals.specs.Outcomes.{number, written};
 ghost use Rattle.refusals.specs.Numbers.{answered};
 ghost use Rattle.parameters.specs.Sets.{setOf};
+ghost use Rattle.packing.specs.Calls.{packing, unpacking};
 ghost use Rattle.etru.specs.Calls.{convolving, keyCheck, sealing, opening};
 
 mod accepted;
@@ -90,6 +91,32 @@ pub fn open(p: Parameters, f: &[i32], f2: &[i32], e: &[i32], message: &mut [u8])
     let t = p.t;
     match p.check() {
         Answer::Done => accepted::open(f, f2, e, n as usize, c, d, t as usize, message),
+        Answer::Refused(refusal) => Answer::Refused(refusal),
+    }
+}
+
+// The polynomial of N coefficients that a message stands for, to m.
+pub fn pack(n: u32, message: &[u8], m: &mut [i32]) -> Answer
+    ensures { λ r. ⌜ (number (answered r) ≡ number (packing n (now (message .entry)) (length (now (m .entry))))) × (now (m .exit) ≡ written (packing n (now (message .entry)) (length (now (m .entry)))) (now (m .entry))) ⌝ }
+{
+    match checks::packing_refusal(n, message, m.len()) {
+        Answer::Done => {
+            messages::pack_into(n as usize, message, m);
+            Answer::Done
+        }
+        Answer::Refused(refusal) => Answer::Refused(refusal),
+    }
+}
+
+// The message that a polynomial of N coefficients stands for, to message.
+pub fn unpack(n: u32, m: &[i32], message: &mut [u8]) -> Answer
+    ensures { λ r. ⌜ (number (answered r) ≡ number (unpacking n (now (m .entry)) (length (now (message .entry))))) × (now (message .exit) ≡ written (unpacking n (now (m .entry)) (length (now (message .entry)))) (now (message .entry))) ⌝ }
+{
+    match checks::unpacking_refusal(n, m, message.len()) {
+        Answer::Done => {
+            messages::unpack_into(n as usize, m, message);
+            Answer::Done
+        }
         Answer::Refused(refusal) => Answer::Refused(refusal),
     }
 }

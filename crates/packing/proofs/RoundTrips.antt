@@ -24,7 +24,7 @@ use Rattle.polynomials.proofs.Arrays.{coefficient-array, array-length, array-sa
 use Rattle.polynomials.proofs.Members.{all-at, at-all, reduced2-at}
 use Rattle.packing.specs.Messages.{messageBytes, bitOf, pair, packed, spareBitSet, messageBit, byte, listed, unpacked}
 use Rattle.packing.specs.Promises.{Packed-unpacks, Packed-reduced, Unpacked-packs, Unpacked-bytes, Unpacked-spare, Unpacking-undoes-packing, Packing-undoes-unpacking}
-use Rattle.packing.specs.Calls.{packing, unpacking}
+use Rattle.packing.specs.Calls.{packingChecks, packing, unpackingChecks, unpacking}
 
 -- ---- lists
 
@@ -308,7 +308,7 @@ is-unset true h = absurd h
 is-unset false h = refl
 
 pub unpacking-undoes-packing : Unpacking-undoes-packing
-unfolding packing unpacking
+unfolding packing packingChecks unpacking unpackingChecks
 unpacking-undoes-packing N message m bytes e =
     let p = done-passed 1 (outside 3 1024 N) _ _ _ e in
     let q = done-holds 7 (eqb (length message) (messageBytes N) && eqb (2 * N) (2 * N)) _ _ _ (p .1) in
@@ -323,7 +323,7 @@ unpacking-undoes-packing N message m bytes e =
     ∙ ap done (unpacked-same N (λ i l. sym (same i l)) ∙ packed-unpacks N message bytes n (not-set (spareBitSet N message) (r .0)))
 
 pub packing-undoes-unpacking : Packing-undoes-unpacking
-unfolding packing unpacking
+unfolding packing packingChecks unpacking unpackingChecks
 packing-undoes-unpacking N m message e =
     let p = done-passed 1 (outside 3 1024 N) _ _ _ e in
     let q = done-holds 7 (eqb (messageBytes N) (messageBytes N) && eqb (length m) (2 * N)) _ _ _ (p .1) in

@@ -5,27 +5,29 @@ use Prim.Native.Nat.{ℕ, _*_}
 use lib.Dec.{eqb}
 use lib.IntN.{ℤ}
 use lib.ListN.{length}
-use Rattle.refusals.specs.Outcomes.{Outcome, outcome, _if_}
+use Rattle.refusals.specs.Outcomes.{Check, Outcome, outcome, _if_}
 use Rattle.parameters.specs.Sets.{outside}
 use Rattle.polynomials.specs.Polynomials.{coefficient, array, reduced2}
 use Rattle.packing.specs.Messages.{messageBytes, packed, unpacked, spareBitSet}
 
 -- "Packing: 1, 7, 15."
-unfoldable pub packing : ℕ → List ℕ → ℕ → Outcome (List ℤ)
-packing N message room =
-    outcome
-    (1 if outside 3 1024 N
+unfoldable pub packingChecks : ℕ → List ℕ → ℕ → List Check
+packingChecks N message room =
+    1 if outside 3 1024 N
     ∷ 7 if not (eqb (length message) (messageBytes N) && eqb room (2 * N))
     ∷ 15 if spareBitSet N message
-    ∷ [])
-    (array N (packed message))
+    ∷ []
+
+unfoldable pub packing : ℕ → List ℕ → ℕ → Outcome (List ℤ)
+packing N message room = outcome (packingChecks N message room) (array N (packed message))
 
 -- "Unpacking: 1, 7, 11."
-unfoldable pub unpacking : ℕ → List ℤ → ℕ → Outcome (List ℕ)
-unpacking N m room =
-    outcome
-    (1 if outside 3 1024 N
+unfoldable pub unpackingChecks : ℕ → List ℤ → ℕ → List Check
+unpackingChecks N m room =
+    1 if outside 3 1024 N
     ∷ 7 if not (eqb room (messageBytes N) && eqb (length m) (2 * N))
     ∷ 11 if not (reduced2 N (coefficient m))
-    ∷ [])
-    (unpacked N (coefficient m))
+    ∷ []
+
+unfoldable pub unpacking : ℕ → List ℤ → ℕ → Outcome (List ℕ)
+unpacking N m room = outcome (unpackingChecks N m room) (unpacked N (coefficient m))

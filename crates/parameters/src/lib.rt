@@ -26,7 +26,8 @@ pub enum Made {
     Refused(Refusal),
 }
 
-fn out_of_range(x: u32, low: u32, high: u32) -> bool
+// Whether x is not from low to high.
+pub fn out_of_range(x: u32, low: u32, high: u32) -> bool
     ensures { λ r. ⌜ r ≡ outside low high x ⌝ }
 {
     if x < low {
