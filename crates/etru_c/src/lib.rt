@@ -1,9 +1,12 @@
 // The interface for C. Each function returns document 01's refusal number, 0 if nothing is refused, and writes to its outputs only then.
 ghost use mathlib.Core.Path.{_≡_};
+ghost use lib.ListN.{length};
 ghost use Rattle.refusals.specs.Outcomes.{number, written};
 ghost use Rattle.eisenstein.specs.Values.{value};
 ghost use Rattle.eisenstein.specs.Calls.{reduceQ, reduce2, answered};
 ghost use Rattle.parameters.specs.Sets.{set, parameters};
+ghost use Rattle.packing.specs.Calls.{packing, unpacking};
+ghost use Rattle.etru.specs.Calls.{convolving, keyCheck, sealing, opening};
 use eisenstein::Reduced;
 use parameters::Parameters;
 
@@ -46,4 +49,96 @@ pub extern "C" fn etru_check_parameters(n: u32, c: i32, d: i32, s: u32, t: u32) 
 {
     let p = Parameters { n, c, d, s, t };
     p.check().number()
+}
+
+// x × y reduced modulo q, to out.
+#[no_mangle]
+pub extern "C" fn etru_convolve(
+    n: u32,
+    c: i32,
+    d: i32,
+    s: u32,
+    t: u32,
+    x: &[i32],
+    y: &[i32],
+    out: &mut [i32],
+) -> u32
+    ensures { λ r. ⌜ (r ≡ number (convolving (set n c d s t) (now (x .entry)) (now (y .entry)) (length (now (out .entry))))) × (now (out .exit) ≡ written (convolving (set n c d s t) (now (x .entry)) (now (y .entry)) (length (now (out .entry)))) (now (out .entry))) ⌝ }
+{
+    let p = Parameters { n, c, d, s, t };
+    etru::convolve(p, x, y, out).number()
+}
+
+// Checks a key. The public key goes to h.
+#[no_mangle]
+pub extern "C" fn etru_check_key(
+    n: u32,
+    c: i32,
+    d: i32,
+    s: u32,
+    t: u32,
+    f: &[i32],
+    f2: &[i32],
+    fq: &[i32],
+    g: &[i32],
+    h: &mut [i32],
+) -> u32
+    ensures { λ r. ⌜ (r ≡ number (keyCheck (set n c d s t) (now (f .entry)) (now (f2 .entry)) (now (fq .entry)) (now (g .entry)) (length (now (h .entry))))) × (now (h .exit) ≡ written (keyCheck (set n c d s t) (now (f .entry)) (now (f2 .entry)) (now (fq .entry)) (now (g .entry)) (length (now (h .entry)))) (now (h .entry))) ⌝ }
+{
+    let p = Parameters { n, c, d, s, t };
+    etru::check_key(p, f, f2, fq, g, h).number()
+}
+
+// Seals a message, to e.
+#[no_mangle]
+pub extern "C" fn etru_seal(
+    n: u32,
+    c: i32,
+    d: i32,
+    s: u32,
+    t: u32,
+    h: &[i32],
+    phi: &[i32],
+    message: &[u8],
+    e: &mut [i32],
+) -> u32
+    ensures { λ r. ⌜ (r ≡ number (sealing (set n c d s t) (now (h .entry)) (now (phi .entry)) (now (message .entry)) (length (now (e .entry))))) × (now (e .exit) ≡ written (sealing (set n c d s t) (now (h .entry)) (now (phi .entry)) (now (message .entry)) (length (now (e .entry)))) (now (e .entry))) ⌝ }
+{
+    let p = Parameters { n, c, d, s, t };
+    etru::seal(p, h, phi, message, e).number()
+}
+
+// Opens a sealed array. The message goes to message.
+#[no_mangle]
+pub extern "C" fn etru_open(
+    n: u32,
+    c: i32,
+    d: i32,
+    s: u32,
+    t: u32,
+    f: &[i32],
+    f2: &[i32],
+    e: &[i32],
+    message: &mut [u8],
+) -> u32
+    ensures { λ r. ⌜ (r ≡ number (opening (set n c d s t) (now (f .entry)) (now (f2 .entry)) (now (e .entry)) (length (now (message .entry))))) × (now (message .exit) ≡ written (opening (set n c d s t) (now (f .entry)) (now (f2 .entry)) (now (e .entry)) (length (now (message .entry)))) (now (message .entry))) ⌝ }
+{
+    let p = Parameters { n, c, d, s, t };
+    etru::open(p, f, f2, e, message).number()
+}
+
+// The polynomial that a message stands for, to m.
+#[no_mangle]
+pub extern "C" fn etru_pack(n: u32, message: &[u8], m: &mut [i32]) -> u32
+    ensures { λ r. ⌜ (r ≡ number (packing n (now (message .entry)) (length (now (m .entry))))) × (now (m .exit) ≡ written (packing n (now (message .entry)) (length (now (m .entry)))) (now (m .entry))) ⌝ }
+{
+    etru::pack(n, message, m).number()
+}
+
+// The message that a polynomial stands for, to message.
+#[no_mangle]
+pub extern "C" fn etru_unpack(n: u32, m: &[i32], message: &mut [u8]) -> u32
+    ensures { λ r. ⌜ (r ≡ number (unpacking n (now (m .entry)) (length (now (message .entry))))) × (now (message .exit) ≡ written (unpacking n (now (m .entry)) (length (now (message .entry)))) (now (message .entry))) ⌝ }
+{
+    etru::unpack(n, m, message).number()
 }
