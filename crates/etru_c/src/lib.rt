@@ -47,8 +47,8 @@ pub extern "C" fn etru_reduce_2(a: i64, b: i64, ra: &mut i32, rb: &mut i32) -> u
 pub extern "C" fn etru_check_parameters(n: u32, c: i32, d: i32, s: u32, t: u32) -> u32
     ensures { λ r. ⌜ r ≡ number (parameters (set n c d s t)) ⌝ }
 {
-    let p = Parameters { n, c, d, s, t };
-    p.check().number()
+    let numbers = Parameters { n, c, d, s, t };
+    numbers.check().number()
 }
 
 // x × y reduced modulo q, to out.

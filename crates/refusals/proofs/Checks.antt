@@ -1,12 +1,13 @@
 -- An outcome, check by check: one that applies refuses, and one that does not is passed.
 -- One use: `passed 2 _ _ e ∙ refused-by 21 _ _ f : outcome (2 if s ∷ 21 if t ∷ []) a ≡ refused 21`, for `e : s ≡ false` and `f : t ≡ true`.
 use mathlib.Core.Path.{_≡_, refl, sym, _∙_, ap, subst}
-use mathlib.Core.Bool.{Bool, true, false, not}
+use mathlib.Core.Bool.{Bool, true, false, not, _&&_}
 use mathlib.Core.List.{List, [], _∷_, _++_}
-use Prim.Native.Nat.{ℕ}
+use Prim.Native.Nat.{ℕ, _<_}
 use native.Mathlib.Omega.{arith}
 use borrow.Author.Tests.{not-false}
-use lib.Dec.{T}
+use lib.Dec.{T, ltb}
+use mir.Facts.{and-yes, ltb-yes}
 use Rattle.refusals.specs.Outcomes.{Check, _if_, Outcome, done, refused, unless, outcome, number}
 
 pub refused-by : {A : Type 0} (n : ℕ) (cs : List Check) (a : A) {t : Bool} → t ≡ true → outcome (n if t ∷ cs) a ≡ refused n
@@ -122,3 +123,22 @@ number-carried f (refused n) = refl
 -- so the number is the same whatever the value
 pub same-number : {A B : Type 0} (cs : List Check) (a : A) (b : B) → number (outcome cs a) ≡ number (outcome cs b)
 same-number cs a b = sym (ap number (outcome-carried (λ _. b) cs a) ∙ number-carried (λ _. b) (outcome cs a))
+
+-- ---- an outcome from its number: no check has the number 0
+
+abbrev pub positive : List Check → Bool
+positive [] = true
+positive (c ∷ cs) = ltb 0 (c .number) && positive cs
+
+pub done-by-number : {A : Type 0} (cs : List Check) (a : A) → T (positive cs) → number (outcome cs a) ≡ 0 → outcome cs a ≡ done a
+unfolding outcome
+done-by-number [] a p e = refl
+done-by-number (c ∷ cs) a p e = go (c .applies) (done-by-number cs a (and-yes (ltb 0 (c .number)) (positive cs) p .1)) e
+  where
+    go : (t : Bool) → (number (outcome cs a) ≡ 0 → outcome cs a ≡ done a) → number (unless t (c .number) (outcome cs a)) ≡ 0 → unless t (c .number) (outcome cs a) ≡ done a
+    go true r h = absurd (omega (arith, h, ltb-yes {a = 0} {b = c .number} (and-yes (ltb 0 (c .number)) (positive cs) p .0)))
+    go false r h = r h
+
+pub refused-by-number : {A : Type 0} (o : Outcome A) (n : ℕ) → 0 < n → number o ≡ n → o ≡ refused n
+refused-by-number (done a) n l e = absurd (omega arith)
+refused-by-number (refused m) n l e = ap refused e
