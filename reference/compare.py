@@ -7,6 +7,7 @@ The last line is 'N passed, M failed'; the exit status is 1 if anything failed.
 import argparse
 import random
 import sys
+from math import isqrt
 
 import etru_reference as reference
 from library import Library
@@ -82,12 +83,61 @@ TRIPLE = [1, 0, 0, 1, -1, -1]
 SEALED = [7, 0, -1, 5, -6, -6]
 
 
-def documented_scheme(results):
-    results.expect("document 01, h = g, reference", reference.call_check_key(SMALL, ONE, ONE, ONE, TRIPLE, 6), (0, TRIPLE))
-    results.expect("document 01, B0 seals, reference", reference.call_seal(SMALL, TRIPLE, TRIPLE, b"\xb0", 6), (0, SEALED))
-    results.expect("document 01, opens to B0, reference", reference.call_open(SMALL, ONE, ONE, SEALED, 1), (0, b"\xb0"))
+def documented_scheme(results, library, rng):
     f, f2 = [0, 0, 0, 1, 0, 0], [0, 0, 0, 0, -1, -1]
-    results.expect("document 01, f at X, reference", reference.call_open(SMALL, f, f2, SEALED, 1), (0, b"\xb0"))
+    for what, call, inputs, wanted in [
+        ("h = g", "check_key", [ONE, ONE, ONE, TRIPLE], TRIPLE),
+        ("B0 seals", "seal", [TRIPLE, TRIPLE, [0xB0]], SEALED),
+        ("opens to B0", "open", [ONE, ONE, SEALED], [0xB0]),
+        ("f at X", "open", [f, f2, SEALED], [0xB0]),
+    ]:
+        outcome = reference_outcome(call, SMALL, inputs, len(wanted))
+        results.expect(f"document 01, {what}, reference", outcome, (0, wanted))
+        before = held_before(rng, call, len(wanted))
+        results.expect(f"document 01, {what}", library_outcome(library, call, SMALL, inputs, before), (0, wanted))
+
+
+# ---- calls on polynomials and messages
+
+# the inputs of each call in their order, then its output
+CALLS = {
+    "convolve": (["x", "y"], "out"),
+    "check_key": (["f", "f2", "fq", "g"], "h"),
+    "seal": (["h", "phi", "message"], "e"),
+    "open": (["f", "f2", "e"], "message"),
+    "pack": (["message"], "m"),
+    "unpack": (["m"], "message"),
+}
+WITHOUT_PARAMETERS = ("pack", "unpack")
+
+
+def held_before(rng, call, room):
+    """Random numbers for an output to hold before the call."""
+    if CALLS[call][1] == "message":
+        return [rng.randrange(256) for _ in range(room)]
+    return [rng.randint(LOW32, HIGH32) for _ in range(room)]
+
+
+def reference_outcome(call, p, inputs, room):
+    head = p.n if call in WITHOUT_PARAMETERS else p
+    number, value = getattr(reference, "call_" + call)(head, *inputs, room)
+    return (number, None if value is None else list(value))
+
+
+def library_outcome(library, call, p, inputs, before):
+    head = (p.n,) if call in WITHOUT_PARAMETERS else (p.n, p.q, p.s, p.t)
+    return getattr(library, call)(*head, *inputs, before)
+
+
+def one_call(results, library, rng, call, p, inputs, room, number=None):
+    """Compare one call, and the reference's number with the stated one; return the reference's value."""
+    what = f"{call}, N = {p.n}, q = {p.q}, s = {p.s}, t = {p.t}"
+    outcome = reference_outcome(call, p, inputs, room)
+    if number is not None:
+        results.expect(what + ", the reference's number", outcome[0], number)
+    before = held_before(rng, call, room)
+    results.expect(what, library_outcome(library, call, p, inputs, before), outputs_after(outcome, before))
+    return outcome[1]
 
 
 # ---- values modulo q and modulo 2
@@ -191,6 +241,436 @@ def parameter_sets(results, library, rng):
                 one(n, q, s, near)
 
 
+# ---- making keys: inverses modulo 2 and modulo q of a polynomial f
+
+
+def remainder(x, m):
+    """One value for each class modulo m, found faster than the smallest one."""
+    n = reference.norm(m)
+    u, v = reference.multiply(x, (m[0] - m[1], -m[1]))
+    return reference.subtract(x, reference.multiply(m, (u // n, v // n)))
+
+
+def primes_over(p):
+    """Primes of Z[ω] that divide the rational prime p, one or more of each set of associates."""
+    if p % 3 == 2:
+        return [(p, 0)]
+    found = []
+    for b in range(1, isqrt(4 * p // 3) + 1):
+        # a² - ab + b² = p as an equation in a
+        root = isqrt(4 * p - 3 * b * b)
+        if root * root == 4 * p - 3 * b * b:
+            found += [((b + root) // 2, b), ((b - root) // 2, b)]
+    return found
+
+
+def prime_factors(q):
+    """Primes of Z[ω] whose product is q times a unit."""
+    found = []
+    while reference.norm(q) > 1:
+        n = reference.norm(q)
+        p = next((p for p in range(2, isqrt(n) + 1) if n % p == 0), n)
+        prime = next(prime for prime in primes_over(p) if remainder(q, prime) == (0, 0))
+        found.append(prime)
+        u, v = reference.multiply(q, (prime[0] - prime[1], -prime[1]))
+        q = (u // reference.norm(prime), v // reference.norm(prime))
+    return found
+
+
+def power(x, exponent, m):
+    result = (1, 0)
+    while exponent:
+        if exponent % 2:
+            result = remainder(reference.multiply(result, x), m)
+        x = remainder(reference.multiply(x, x), m)
+        exponent //= 2
+    return result
+
+
+def take_off(x, factor, shift, y, m):
+    """x less factor · X^shift · y, without leading zeros."""
+    result = x + [(0, 0)] * (len(y) + shift - len(x))
+    for i, value in enumerate(y, shift):
+        result[i] = remainder(reference.subtract(result[i], reference.multiply(factor, value)), m)
+    while result and result[-1] == (0, 0):
+        result.pop()
+    return result
+
+
+def inverse_modulo_prime(f, m):
+    """By Euclid's rule on f and X^N - 1 over the field Z[ω]/m; None if there is no inverse."""
+    n = len(f)
+
+    def invert(x):
+        return power(x, reference.norm(m) - 2, m)
+
+    # each pair is r and v with r = v · f modulo X^N - 1
+    (r, v), (r2, v2) = ([(-1, 0)] + [(0, 0)] * (n - 1) + [(1, 0)], []), (take_off([], (-1, 0), 0, f, m), [(1, 0)])
+    while r2:
+        lead = invert(r2[-1])
+        while len(r) >= len(r2):
+            factor, shift = remainder(reference.multiply(r[-1], lead), m), len(r) - len(r2)
+            r, v = take_off(r, factor, shift, r2, m), take_off(v, factor, shift, v2, m)
+        (r, v), (r2, v2) = (r2, v2), (r, v)
+    if len(r) > 1:
+        return None
+    lead = invert(r[0])
+    return [remainder(reference.multiply(lead, value), m) for value in v] + [(0, 0)] * (n - len(v))
+
+
+def inverse(f, q):
+    """The inverse of f modulo q, or None."""
+    n = len(f)
+    places = [i for i in range(n) if f[i] != (0, 0)]
+    if len(places) == 1:
+        # a unit times X^k: the conjugate of the unit, times X^(N-k)
+        a, b = f[places[0]]
+        result = [(0, 0)] * n
+        result[-places[0] % n] = (a - b, -b)
+        return result
+    primes = prime_factors(q)
+    found = {}
+    for prime in primes:
+        if prime not in found:
+            found[prime] = inverse_modulo_prime(f, prime)
+        if found[prime] is None:
+            return None
+    result = found[primes[0]]
+    for prime in primes[1:]:
+        # (1 - f·x)(1 - f·y) = 1 - f·(x + y - f·x·y) is zero modulo both moduli's product
+        x, y = result, found[prime]
+        product = reference.convolve(f, [remainder(value, q) for value in reference.convolve(x, y)])
+        result = [remainder(reference.subtract(reference.add(a, b), c), q) for a, b, c in zip(x, y, product)]
+    return result
+
+
+def random_f(rng, n, t):
+    f = [(0, 0)] * n
+    for place in rng.sample(range(n), t):
+        f[place] = rng.choice(reference.UNITS)
+    return f
+
+
+def random_zero_sum(rng, n, s):
+    """s units of sum zero: pairs u, -u and triples u, uω, uω², at random places."""
+    pairs = 3 * rng.randint(0, s // 6)
+    alike = rng.randrange(6) if rng.randrange(3) == 0 else None
+    units = []
+    for k in range(pairs + (s - 2 * pairs) // 3):
+        first = rng.randrange(6) if alike is None else alike
+        steps = (0, 3) if k < pairs else (0, 2, 4)
+        units += [reference.UNITS[(first + step) % 6] for step in steps]
+    result = [(0, 0)] * n
+    for place, unit in zip(rng.sample(range(n), s), units):
+        result[place] = unit
+    return reference.array(result)
+
+
+def random_message(rng, n, kind):
+    """All bits zero, all bits one or random bits; the spare bits are zero."""
+    length = reference.message_length(n)
+    message = [{"zero": 0, "one": 255}.get(kind, rng.randrange(256)) for _ in range(length)]
+    message[-1] &= 256 - 2 ** (8 * length - 2 * n)
+    return message
+
+
+def random_reduced(rng, p):
+    return reference.array(reference.reduce_q((rng.randint(-9999, 9999), rng.randint(-9999, 9999)), p.q) for _ in range(p.n))
+
+
+def random_parameters(rng, n, q):
+    """s and t at an end of what the bound allows, or between."""
+    most = isqrt((reference.norm(q) - 1) // 4)
+    s_most = min(n // 3, (most - 1) // 6)
+    s = 3 * rng.choice([1, s_most, rng.randint(1, s_most)])
+    t_most = min(n, most - 2 * s)
+    t = rng.choice([1, t_most, t_most, rng.randint(1, t_most)])
+    return reference.Parameters(n, q, s, t)
+
+
+class Key:
+    """A private key with random f and g, if one is met within the tries; its `f` is None otherwise."""
+
+    def __init__(self, rng, p, tries):
+        self.p = p
+        self.f = None
+        for _ in range(tries):
+            f = random_f(rng, p.n, p.t)
+            f2 = inverse(f, (2, 0))
+            fq = None if f2 is None else inverse(f, p.q)
+            if fq is not None:
+                self.f = reference.array(f)
+                self.f2 = reference.array(reference.all_reduced_2(f2))
+                self.fq = reference.array(reference.all_reduced_q(fq, p.q))
+                self.g = random_zero_sum(rng, p.n, p.s)
+                return
+
+
+KEY_MODULI = [(15, 0), (0, 81), (11, 86), (45, 30), (101, 0), (-105, 0), (0, -55), (77, -14), (4095, 4095), (4095, -4095), (-4095, 0), (-4095, 4094), (1, 4095)]
+# N from 509 on, with s and t at an end or within
+LARGE_KEYS = [
+    (509, (11, 86), 12, 16),
+    (509, (0, 81), 18, 1),
+    (512, (45, 30), 9, 1),
+    (677, (15, 0), 3, 1),
+    (768, (4095, 4095), 96, 1),
+    (1021, (101, 0), 24, 1),
+    (1023, (-4095, 4094), 300, 1),
+    (1024, (4095, -4095), 1023, 1),
+    (1024, (-4095, 4093), 3, 1024),
+]
+
+
+def one_key(results, library, rng, key, kinds):
+    p, n = key.p, key.p.n
+
+    def run(call, inputs, room, number=None):
+        return one_call(results, library, rng, call, p, inputs, room, number)
+
+    h = run("check_key", [key.f, key.f2, key.fq, key.g], 2 * n, 0)
+    for kind in kinds:
+        message = random_message(rng, n, kind)
+        m = run("pack", [message], 2 * n, 0)
+        results.expect(f"unpacking, N = {n}", library.unpack(n, m, held_before(rng, "unpack", len(message))), (0, message))
+        e = run("seal", [h, random_zero_sum(rng, n, p.s), message], 2 * n, 0)
+        opened = run("open", [key.f, key.f2, e], len(message), 0)
+        results.expect(f"opening by the definition gives the message, N = {n}, q = {p.q}", opened, message)
+    return h
+
+
+def random_keys(results, library, rng):
+    made = 0
+    while made < 360:
+        n = rng.randint(3, 9) if made % 3 == 0 else rng.randint(10, 40)
+        q = rng.choice(KEY_MODULI)
+        if made % 4 == 0:
+            q = (rng.randint(-4095, 4095), rng.randint(-2048, 2047) * 2 + 1)
+        if made % 12 == 0:
+            n = rng.randint(41, 400)
+        if reference.norm(q) <= 4 * 7 * 7:
+            continue
+        p = random_parameters(rng, n, q)
+        if n > 40:
+            p.t = 1
+        key = Key(rng, p, 30)
+        if key.f is None:
+            continue
+        made += 1
+        h = one_key(results, library, rng, key, ["zero", "one", "random"] if n <= 40 else ["random"])
+        if n <= 40:
+            one_call(results, library, rng, "convolve", p, [key.fq, h], 2 * n, 0)
+            one_call(results, library, rng, "convolve", p, [random_reduced(rng, p), random_reduced(rng, p)], 2 * n, 0)
+            # opening what was never sealed, with an F2 that is no inverse
+            f2 = reference.array(reference.pack(n, random_message(rng, n, "random")))
+            one_call(results, library, rng, "open", p, [key.f, f2, random_reduced(rng, p)], reference.message_length(n), 0)
+    for n, q, s, t in LARGE_KEYS:
+        key = Key(rng, reference.Parameters(n, q, s, t), 30)
+        one_key(results, library, rng, key, ["random"])
+    # the largest sums: every coefficient a remainder of the largest norm
+    for n, q in [(1024, (4095, -4095)), (97, (-4095, 0)), (40, (0, 81)), (3, (15, 0))]:
+        p = reference.Parameters(n, q, 3, 1)
+        third = (q[0] // 3, q[1] // 3)
+        for way in [(1, 2), (2, 1)][: 1 if n > 1000 else 2]:
+            worst = reference.array([reference.reduce_q(reference.multiply(third, way), q)] * n)
+            one_call(results, library, rng, "convolve", p, [worst, worst], 2 * n, 0)
+
+
+def messages(results, library, rng):
+    for n in list(range(3, 68)) + [509, 1021, 1022, 1023, 1024]:
+        for kind in ["zero", "one", "random", "random"]:
+            message = random_message(rng, n, kind)
+            p = reference.Parameters(n, None, None, None)
+            m = one_call(results, library, rng, "pack", p, [message], 2 * n, 0)
+            one_call(results, library, rng, "unpack", p, [m], len(message), 0)
+
+
+# ---- refusals
+
+# after the parameters and the lengths: the number and the array of each check, in the order of the checks
+ORDER = {
+    "convolve": [(12, "x"), (12, "y")],
+    "check_key": [(8, "f"), (11, "f2"), (12, "fq"), (9, "g"), (13, "f2"), (14, "fq")],
+    "seal": [(12, "h"), (10, "phi"), (15, "message")],
+    "open": [(8, "f"), (11, "f2"), (12, "e")],
+    "pack": [(15, "message")],
+    "unpack": [(11, "m")],
+}
+NOT_UNITS = [(2, 0), (1, -1), (-1, 1), (0, -2), (LOW32, 0), (0, LOW32), (HIGH32, HIGH32), (LOW32, LOW32), (65537, 65537)]
+NOT_REDUCED_2 = [(1, 1), (-1, 0), (0, -1), (1, -1), (-1, 1), (2, 0), (0, 2), (-1, -3), (LOW32, LOW32), (HIGH32, HIGH32), (LOW32, 0)]
+
+
+class Case:
+    """The arguments of one call: a parameter set, the inputs by name, and the room of the output."""
+
+    def __init__(self, call, n, q, s, t, arrays, room):
+        self.call, self.n, self.q, self.s, self.t, self.arrays, self.room = call, n, q, s, t, arrays, room
+
+    def but(self, **changes):
+        values = {name: getattr(self, name) for name in ("n", "q", "s", "t", "room")}
+        values.update(changes)
+        return Case(self.call, arrays=self.arrays, **values)
+
+    def with_array(self, name, numbers):
+        changed = self.but()
+        changed.arrays = {**self.arrays, name: numbers}
+        return changed
+
+    def run(self, results, library, rng, number=None):
+        p = reference.Parameters(self.n, self.q, self.s, self.t)
+        one_call(results, library, rng, self.call, p, [self.arrays[name] for name in CALLS[self.call][0]], self.room, number)
+
+
+def parameter_spoils(case):
+    """For each check of the parameters, in order: its number and changes that make it apply."""
+    s, t = case.s, case.t
+    one = (1, [lambda case, n=n: case.but(n=n) for n in (0, 1, 2, 1025, 2**31, 2**32 - 1)])
+    if case.call in WITHOUT_PARAMETERS:
+        return [one]
+    beyond = (4096, -4096, HIGH32, LOW32)
+    return [
+        one,
+        (2, [lambda case, c=c: case.but(q=(c, case.q[1])) for c in beyond] + [lambda case, d=d: case.but(q=(case.q[0], d)) for d in beyond]),
+        (3, [lambda case: case.but(q=(case.q[0] // 2 * 2, case.q[1] // 2 * 2)), lambda case: case.but(q=(0, 0))]),
+        (4, [lambda case, s=s: case.but(s=s) for s in (0, 1, s - 1, s + 1, 2**31, 2**32 - 1)] + [lambda case: case.but(s=case.n // 3 * 3 + 3)]),
+        (5, [lambda case: case.but(t=case.n + 1)] + [lambda case, t=t: case.but(t=t) for t in (0, 2**31, 2**32 - 1)]),
+        (6, [lambda case: case.but(t=t + 1), lambda case: case.but(q=(1, 0))]),
+    ]
+
+
+def length_spoils(case):
+    """One number more, one fewer, two more and none, in each array and the output, and another N."""
+    changes = [lambda case: case.but(n=case.n + 1)]
+    for name in CALLS[case.call][0]:
+        changes += [
+            lambda case, name=name: case.with_array(name, case.arrays[name] + [0]),
+            lambda case, name=name: case.with_array(name, case.arrays[name][:-1]),
+            lambda case, name=name: case.with_array(name, case.arrays[name] + [0, 0]),
+            lambda case, name=name: case.with_array(name, []),
+        ]
+    changes += [lambda case, room=room: case.but(room=room) for room in (case.room + 1, case.room - 1, case.room + 2, 0)]
+    return (7, changes)
+
+
+def at(place, value):
+    """The change of an array that puts this coefficient at this place."""
+    return lambda numbers: numbers[: 2 * place] + list(value) + numbers[2 * place + 2 :]
+
+
+def array_changes(rng, case, number, name):
+    """Changes of one array that make one check apply."""
+    if number == 15:
+        spare = 8 * len(case.arrays[name]) - 2 * case.n
+        return [lambda numbers, bit=bit: numbers[:-1] + [numbers[-1] | 1 << bit] for bit in range(spare)]
+    polynomial = reference.coefficients(case.arrays[name])
+    places = (0, rng.randrange(case.n), case.n - 1)
+    if number in (8, 9, 10):
+        filled = [i for i, value in enumerate(polynomial) if value != (0, 0)]
+        empty = [i for i, value in enumerate(polynomial) if value == (0, 0)]
+        changes = [at(rng.choice(filled), value) for value in NOT_UNITS + [(0, 0)]]
+        changes += [at(rng.choice(empty), value) for value in reference.UNITS + NOT_UNITS if empty]
+        changes.append(lambda numbers: [0] * len(numbers))
+        if number != 8:
+            # the sum is not zero
+            place = rng.choice(filled)
+            changes += [at(place, unit) for unit in reference.UNITS if unit != polynomial[place]]
+            # the sum is zero and the count right, but two are no units
+            i, j = filled[0], filled[1]
+            for step in [(3, 0), (5, 7), (2**30, -(2**30))]:
+                x, y = reference.add(polynomial[i], step), reference.subtract(polynomial[j], step)
+                changes.append(lambda numbers, i=i, j=j, x=x, y=y: at(i, x)(at(j, y)(numbers)))
+            if len(empty) >= 3:
+                # the sum is zero and all are units, but there are three more
+                a, b, c = empty[:3]
+                changes.append(lambda numbers: at(a, (1, 0))(at(b, (0, 1))(at(c, (-1, -1))(numbers))))
+        return changes
+    if number == 11:
+        return [at(places[k % 3], value) for k, value in enumerate(NOT_REDUCED_2)]
+    if number == 12:
+        values = [(LOW32, LOW32), (HIGH32, HIGH32), (LOW32, HIGH32), (HIGH32, 0), (0, LOW32), case.q]
+        changes = [at(rng.choice(places), value) for value in values]
+        for place in places:
+            for unit in reference.UNITS:
+                changes.append(at(place, reference.add(polynomial[place], reference.multiply(case.q, unit))))
+        if case.q[0] % 3 == 0 and case.q[1] % 3 == 0:
+            # the values of the smallest norm that lose a tie
+            third = (case.q[0] // 3, case.q[1] // 3)
+            tied = [reference.multiply(reference.multiply(third, (1, 2)), unit) for unit in reference.UNITS]
+            changes += [at(rng.choice(places), value) for value in tied if reference.reduce_q(value, case.q) != value]
+        return changes
+    # 13 and 14: a reduced polynomial that is not the inverse
+    changes = [lambda numbers: [0] * len(numbers)]
+    for place in places:
+        other = next(value for value in [(1, 0), (0, 1)] if value != polynomial[place])
+        changes.append(at(place, other))
+    turned = case.arrays[name][-2:] + case.arrays[name][:-2]
+    if turned != case.arrays[name]:
+        changes.append(lambda numbers: turned)
+    return changes
+
+
+def spoils(rng, case):
+    """Each check of the call in order: its number, and changes of the case that make it apply."""
+    steps = parameter_spoils(case) + [length_spoils(case)]
+    for number, name in ORDER[case.call]:
+        changes = array_changes(rng, case, number, name)
+        steps.append((number, [lambda case, name=name, change=change: case.with_array(name, change(case.arrays[name])) for change in changes]))
+    return [(number, changes) for number, changes in steps if changes]
+
+
+def cases_of(rng, key):
+    """An accepted case of each call with this key."""
+    p, n = key.p, key.p.n
+    h = reference.call_check_key(p, key.f, key.f2, key.fq, key.g, 2 * n)[1]
+    phi, message = random_zero_sum(rng, n, p.s), random_message(rng, n, "random")
+    e = reference.call_seal(p, h, phi, message, 2 * n)[1]
+    m = reference.array(reference.pack(n, message))
+    arrays = {"f": key.f, "f2": key.f2, "fq": key.fq, "g": key.g, "h": h, "phi": phi, "message": message, "e": e, "m": m}
+    arrays.update(x=random_reduced(rng, p), y=random_reduced(rng, p))
+    for call, (names, output) in CALLS.items():
+        room = len(message) if output == "message" else 2 * n
+        yield Case(call, n, p.q, p.s, p.t, {name: arrays[name] for name in names}, room)
+
+
+def random_number(rng):
+    kind = rng.randrange(4)
+    if kind == 0:
+        return rng.choice(EDGES_32)
+    return rng.randint(LOW32, HIGH32) if kind == 1 else rng.randint(-2, 2)
+
+
+def refusals(results, library, rng):
+    # t is the largest that the bound allows, and below N
+    for p in [SMALL, reference.Parameters(17, (11, 86), 12, 16), reference.Parameters(13, (45, 30), 6, 7), reference.Parameters(8, (0, -27), 3, 7)]:
+        key = Key(rng, p, 1000)
+        for case in cases_of(rng, key):
+            case.run(results, library, rng, 0)
+            steps = spoils(rng, case)
+            for k, (number, changes) in enumerate(steps):
+                for change in changes:
+                    change(case).run(results, library, rng, number)
+                # with the check that follows: the later change is made first
+                for later in steps[k + 1][1] if k + 1 < len(steps) else []:
+                    for change in changes if len(changes) <= 8 else rng.sample(changes, 8):
+                        change(later(case)).run(results, library, rng, number)
+            # several of all the checks
+            for _ in range(150):
+                chosen = sorted(rng.sample(range(len(steps)), min(len(steps), rng.randint(2, 4))), reverse=True)
+                changed = case
+                for k in chosen:
+                    changed = rng.choice(steps[k][1])(changed)
+                changed.run(results, library, rng, steps[chosen[-1]][0])
+            # numbers of the whole range: in some places, and in every place of one array
+            for _ in range(100):
+                name = rng.choice(CALLS[case.call][0])
+                numbers = list(case.arrays[name])
+                draw = (lambda: rng.randrange(256)) if name == "message" else (lambda: random_number(rng))
+                if rng.randrange(4) == 0:
+                    numbers = [draw() for _ in numbers]
+                else:
+                    numbers[rng.randrange(len(numbers))] = draw()
+                case.with_array(name, numbers).run(results, library, rng)
+
+
 def main():
     parser = argparse.ArgumentParser(description="Compare the library with the reference program.")
     parser.add_argument("--seed", type=int, default=1, help="the seed of the random inputs (default: 1)")
@@ -199,9 +679,12 @@ def main():
     results = Results()
     library = Library()
     documented_lines(results, library)
-    documented_scheme(results)
+    documented_scheme(results, library, rng)
     reductions(results, library, rng)
     parameter_sets(results, library, rng)
+    messages(results, library, rng)
+    random_keys(results, library, rng)
+    refusals(results, library, rng)
     print(f"comparison with the reference program, seed {seed}:")
     print(f"{results.passed} passed, {results.failed} failed")
     return 1 if results.failed else 0

@@ -14,7 +14,7 @@ use Rattle.parameters.specs.Sets.{outside, even, bound, parameterChecks, parame
 use Rattle.polynomials.specs.Polynomials.{coefficient, array, sum, convolution, one, all, count, nonzero, among, unitsOnly, unitsOfSumZero, reducedQ, reduced2, congruentQ, congruent2}
 use Rattle.packing.specs.Messages.{bitOf, pair, packed, spareBitSet, messageBit, byte, listed, unpacked}
 use Rattle.etru.specs.Scheme.{publicKey, sealed, opened}
-use Rattle.etru.specs.Calls.{keyCheck, sealing, opening}
+use Rattle.etru.specs.Calls.{keyChecks, keyCheck, sealingChecks, sealing, openingChecks, opening}
 use Rattle.worked_examples.specs.Rows.{Rows-hold}
 
 -- a remainder, computed by `modQ`
@@ -24,7 +24,7 @@ computed q x r h t =
     (modQ-is-remainder q x (λ e. T-not (same q 𝟘) (subst T (sym (same-true e)) tt) h))
 
 pub rows-hold : Rows-hold
-unfolding modQ mod2 bit cell corner better best _+ω_ _-ω_ _*ω_ norm same sameℤ beyond outside even bound parameterChecks parameters outcome coefficient array sum convolution one all count nonzero among unitsOnly unitsOfSumZero reducedQ reduced2 congruentQ congruent2 bitOf pair packed spareBitSet messageBit byte listed unpacked publicKey sealed opened keyCheck sealing opening
+unfolding modQ mod2 bit cell corner better best _+ω_ _-ω_ _*ω_ norm same sameℤ beyond outside even bound parameterChecks parameters outcome coefficient array sum convolution one all count nonzero among unitsOnly unitsOfSumZero reducedQ reduced2 congruentQ congruent2 bitOf pair packed spareBitSet messageBit byte listed unpacked publicKey sealed opened keyChecks keyCheck sealingChecks sealing openingChecks opening
 rows-hold = (
   computed _ _ _ tt tt,
   (
