@@ -1,12 +1,10 @@
 -- Opening undoes sealing, of polynomials: f × e is congruent to a = 2φ × g + f × m, whose norms the bound keeps small enough to be its own remainder modulo q; F2 times it is m modulo 2.
-use mathlib.Core.Path.{_≡_, refl, sym, _∙_, ap, ap₂, subst}
+use mathlib.Core.Path.{_≡_, refl, sym, _∙_, ap, subst}
 use mathlib.Core.Logic.{_≢_}
-use Prim.Native.Nat.{ℕ, _+_, _*_, _≤_, _<_}
+use Prim.Native.Nat.{ℕ, _+_, _*_, _<_}
 use native.Mathlib.Omega.{arith}
-use native.Mathlib.Nat.{mul-le-mul}
-use lib.Dec.{T}
 use lib.IntN.{pos}
-use Rattle.eisenstein.specs.Values.{ℤ[ω], value, 𝟘, norm, _+ω_, _-ω_, _*ω_, Congruent}
+use Rattle.eisenstein.specs.Values.{ℤ[ω], value, 𝟘, _+ω_, _*ω_, Congruent}
 use Rattle.eisenstein.specs.Reduction.{Remainder, modQ, mod2}
 use Rattle.eisenstein.proofs.Solver.{ringω, conω, _≐_, _⊞_, _⊠_}
 use Rattle.eisenstein.proofs.Laws.{+ω-comm, +ω-zero, congruent-refl, congruent-sym, congruent-trans}
@@ -15,9 +13,8 @@ use Rattle.eisenstein.proofs.Modulo2.{mod2-by-class}
 use Rattle.parameters.specs.Sets.{ParameterSet}
 use Rattle.etru.specs.Scheme.{opened}
 use Rattle.etru.specs.Promises.{Setting, Opening-undoes-sealing}
-use Rattle.polynomials.specs.Polynomials.{Polynomial, convolution, one, unitsOnly, reduced2}
-use Rattle.polynomials.proofs.Rings.{Congruence}
-use Rattle.polynomials.proofs.Convolutions.{conv, unit, conv-same, conv-congruent, conv-add-right, conv-add-left, conv-assoc, conv-unit-left, conv-comm}
+use Rattle.polynomials.specs.Polynomials.{Polynomial, convolution}
+use Rattle.polynomials.proofs.Convolutions.{conv, conv-same, conv-congruent, conv-add-right, conv-add-left, conv-assoc, conv-unit-left, conv-comm}
 use Rattle.polynomials.proofs.Cyclic.{cyclic, cyclic-comm}
 use Rattle.polynomials.proofs.Eisenstein.{ring, modulo, congruent-add, convolution-is, one-is}
 use Rattle.polynomials.proofs.Bounds.{Within, within-add}

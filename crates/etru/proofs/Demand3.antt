@@ -1,18 +1,17 @@
 -- Demand 3 of the definitions: what an accepted key gives, that sealing and opening then pass each check, and that they undo each other.
-use mathlib.Core.Path.{_≡_, refl, sym, _∙_, ap, ap₂, subst}
+use mathlib.Core.Path.{_≡_, refl, sym, _∙_, ap, subst}
 use mathlib.Core.Bool.{Bool, true, false, not, _&&_}
-use mathlib.Core.List.{List, [], _∷_, _++_}
+use mathlib.Core.List.{List}
 use mathlib.Core.Logic.{_≢_}
-use Prim.Native.Nat.{ℕ, _+_, _*_, _≤_, _<_}
-use native.Mathlib.Omega.{arith}
-use lib.Dec.{T, eqb, ltb, eqb→eq}
+use Prim.Native.Nat.{ℕ, _+_, _*_, _<_}
+use lib.Dec.{T, eqb, eqb→eq}
 use lib.IntN.{ℤ, pos}
 use lib.ListN.{length}
-use mir.Facts.{and-yes, ltb-yes}
+use mir.Facts.{and-yes}
 use Rattle.integers.proofs.Tests.{equal-4}
-use Rattle.refusals.specs.Outcomes.{Outcome, done, outcome}
-use Rattle.refusals.proofs.Checks.{passed, holds-passed, none-left, done-passed, done-holds, done-value, done-all, passed-all}
-use Rattle.eisenstein.specs.Values.{ℤ[ω], value, 𝟘, norm, _+ω_, Congruent, same}
+use Rattle.refusals.specs.Outcomes.{Outcome, done}
+use Rattle.refusals.proofs.Checks.{passed, holds-passed, none-left, done-holds, done-value, done-all, passed-all}
+use Rattle.eisenstein.specs.Values.{ℤ[ω], value, 𝟘, _+ω_, Congruent, same}
 use Rattle.eisenstein.specs.Reduction.{modQ, mod2}
 use Rattle.eisenstein.proofs.Laws.{congruent-sym, congruent-trans}
 use Rattle.eisenstein.proofs.Equality.{same-yes, same-true}

@@ -1,11 +1,11 @@
 -- Loops that test every index: `all` from the tests that were made.
-use mathlib.Core.Path.{_≡_, refl, sym, _∙_, ap, ap₂, subst}
+use mathlib.Core.Path.{_≡_, refl, sym, _∙_, ap, ap₂}
 use mathlib.Core.Bool.{Bool, true, false, _&&_}
 use Prim.Native.Nat.{ℕ, zero, suc, _+_, _<_}
 use native.Mathlib.Omega.{arith}
 use native.Mathlib.Decide.{ℕ-discrete}
 use native.Mathlib.Numerals.{add-one}
-use Rattle.polynomials.specs.Polynomials.{all, count}
+use Rattle.polynomials.specs.Polynomials.{all}
 
 pub all-none : (t : ℕ → Bool) → all 0 t ≡ true
 unfolding all

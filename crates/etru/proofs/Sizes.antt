@@ -1,5 +1,5 @@
 -- How large the numbers of an array can be, from the test that it passed.
-use mathlib.Core.Path.{_≡_, refl, sym, _∙_, ap, subst}
+use mathlib.Core.Path.{_≡_, sym, subst}
 use mathlib.Core.Bool.{false}
 use mathlib.Core.List.{List}
 use mathlib.Core.Logic.{_≢_}
@@ -15,7 +15,7 @@ use mir.Val.{toZ, ofZ}
 use mir.Facts.{toZ-ofZ}
 use Rattle.integers.proofs.Machine.{sfits-within}
 use Rattle.integers.proofs.Absolute.{square-le}
-use Rattle.eisenstein.specs.Values.{ℤ[ω], value, 𝟘, norm}
+use Rattle.eisenstein.specs.Values.{ℤ[ω], 𝟘}
 use Rattle.eisenstein.specs.Reduction.{modQ}
 use Rattle.eisenstein.specs.Calls.{beyond}
 use Rattle.eisenstein.proofs.Limits.{within}

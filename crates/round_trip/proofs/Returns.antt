@@ -11,7 +11,6 @@ use Rattle.polynomials.specs.Polynomials.{coefficient, array}
 use Rattle.packing.specs.Messages.{messageBytes, packed}
 use Rattle.etru.specs.Scheme.{publicKey, sealed}
 use Rattle.etru.specs.Calls.{keyChecks, keyCheck, sealingChecks, sealing, opening}
-use Rattle.etru.specs.Demand3.{AcceptedKey, Ephemeral, Message}
 use Rattle.etru.proofs.Demand3.{demand-3}
 use Rattle.round_trip.specs.RoundTrip.{next, checkedSealing, roundTrip, Round-trip-returns}
 

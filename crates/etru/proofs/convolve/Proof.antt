@@ -1,7 +1,6 @@
 -- `convolve` meets its contract: the parameter set's checks, then those of the call.
 use mathlib.Core.Path.{_≡_, sym, _∙_, ap, ap₂}
-use mathlib.Core.List.{List, _++_}
-use Prim.Native.Nat.{ℕ}
+use mathlib.Core.List.{List}
 use borrow.Author.Needs.{needs}
 use denote.Ref.{now}
 use lib.IntN.{ℤ}
@@ -9,7 +8,7 @@ use lib.ListN.{length}
 use mir.Syntax.{w32}
 use mir.Val.{toZ, ofZ}
 use mir.Facts.{toZ-ofZ}
-use Rattle.refusals.specs.Outcomes.{Check, Outcome, done, outcome, number, written}
+use Rattle.refusals.specs.Outcomes.{Check, Outcome, outcome, number, written}
 use Rattle.refusals.specs.Numbers.{answered}
 use Rattle.refusals.proofs.Checks.{passed-all, refused-first}
 use Rattle.eisenstein.specs.Values.{ℤ[ω], value}

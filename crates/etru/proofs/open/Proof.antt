@@ -1,6 +1,6 @@
 -- `open` meets its contract: the parameter set's checks, then those of the call.
 use mathlib.Core.Path.{_≡_, sym, _∙_, ap, ap₂}
-use mathlib.Core.List.{List, _++_}
+use mathlib.Core.List.{List}
 use Prim.Native.Nat.{ℕ}
 use borrow.Author.Needs.{needs}
 use denote.Ref.{now}
@@ -9,7 +9,7 @@ use lib.ListN.{length}
 use mir.Syntax.{w32}
 use mir.Val.{toZ, ofZ}
 use mir.Facts.{toZ-ofZ}
-use Rattle.refusals.specs.Outcomes.{Check, Outcome, done, outcome, number, written}
+use Rattle.refusals.specs.Outcomes.{Check, Outcome, outcome, number, written}
 use Rattle.refusals.specs.Numbers.{answered}
 use Rattle.refusals.proofs.Checks.{passed-all, refused-first}
 use Rattle.eisenstein.specs.Values.{ℤ[ω], value}

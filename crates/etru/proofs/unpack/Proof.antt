@@ -4,7 +4,6 @@ use mathlib.Core.List.{List}
 use Prim.Native.Nat.{ℕ}
 use borrow.Author.Needs.{needs}
 use denote.Ref.{now}
-use lib.IntN.{ℤ}
 use lib.ListN.{length}
 use Rattle.refusals.specs.Outcomes.{Check, Outcome, done, outcome, number, written}
 use Rattle.refusals.specs.Numbers.{answered}

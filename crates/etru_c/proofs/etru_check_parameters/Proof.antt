@@ -1,11 +1,8 @@
 -- `etru_check_parameters` meets its contract.
-use mathlib.Core.Path.{_≡_, _∙_, sym, ap, ap₂}
-use mathlib.Core.List.{List}
-use Prim.Native.Nat.{ℕ}
+use mathlib.Core.Path.{_∙_, ap, ap₂}
 use lib.IntN.{ℤ}
 use mir.Facts.{toZ-ofZ}
-use Rattle.refusals.specs.Outcomes.{Check, Outcome, number, outcome}
-use Rattle.refusals.specs.Numbers.{answered}
+use Rattle.refusals.specs.Outcomes.{number, outcome}
 use Rattle.refusals.proofs.Checks.{same-number}
 use Rattle.parameters.specs.Sets.{set, parameterChecks, parameters}
 use Rattle.etru_c.proofs.etru_check_parameters.Statement.{statement}

@@ -6,7 +6,7 @@ use mir.Syntax.{w32}
 use mir.Val.{toZ, ofZ}
 use mir.Facts.{toZ-ofZ}
 use Rattle.refusals.specs.Outcomes.{number, written}
-use Rattle.eisenstein.specs.Values.{ℤ[ω], value}
+use Rattle.eisenstein.specs.Values.{value}
 use Rattle.eisenstein.specs.Calls.{answered}
 use Rattle.eisenstein.specs.declared.Reduced.{Reduced}
 use Rattle.etru_c.proofs.give.Statement.{statement}

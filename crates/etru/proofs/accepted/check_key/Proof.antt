@@ -1,6 +1,5 @@
 -- `check_key` meets its contract.
 use mathlib.Core.Path.{_≡_, sym, _∙_, ap, ap₂}
-use mathlib.Core.Bool.{false}
 use mathlib.Core.List.{List}
 use borrow.Author.Needs.{needs}
 use denote.Ref.{now}
@@ -15,8 +14,6 @@ use Rattle.refusals.proofs.Checks.{done-with, refused-with}
 use Rattle.eisenstein.specs.Values.{ℤ[ω], value}
 use Rattle.eisenstein.specs.Calls.{beyond}
 use Rattle.polynomials.specs.Polynomials.{coefficient, array}
-use Rattle.eisenstein.specs.Reduction.{modQ}
-use Rattle.parameters.specs.Sets.{ParameterSet}
 use Rattle.etru.specs.Scheme.{publicKey}
 use Rattle.etru.specs.Calls.{keyChecks}
 use Rattle.etru.proofs.Passed.{key-passed}

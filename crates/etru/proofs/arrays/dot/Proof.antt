@@ -1,10 +1,9 @@
 -- `dot` meets its contract. The loop's invariant: the sums so far, and a bound on them by the count of terms.
-use mathlib.Core.Path.{_≡_, refl, sym, _∙_, ap, ap₂, subst}
+use mathlib.Core.Path.{_≡_, sym, _∙_, ap, ap₂}
 use mathlib.Core.List.{List}
-use Prim.Native.Nat.{ℕ, zero, suc, _+_, _-_, _*_, _^_, _≤_, _<_}
+use Prim.Native.Nat.{ℕ, suc, _+_, _-_, _*_, _^_, _≤_, _<_}
 use native.Mathlib.Omega.{arith}
 use lib.IntN.{ℤ, pos, natAbs}
-use lib.ListN.{length}
 use mir.Syntax.{w64}
 use mir.Val.{toZ}
 use Rattle.integers.proofs.Machine.{sum-fits, sum-read, sum-size}

@@ -2,14 +2,13 @@
 use mathlib.Core.Path.{_≡_, sym, _∙_, ap₂, subst}
 use mathlib.Core.List.{List, [], _∷_}
 use Prim.Native.Nat.{ℕ, _+_, _*_, _≤_, _^_}
-use native.Mathlib.Omega.{arith}
 use borrow.Author.Needs.{needs}
 use lib.IntN.{ℤ, pos, natAbs}
 use lib.ListN.{getD}
 use mir.Syntax.{w64}
 use Rattle.integers.proofs.Ring.{Expr, var, _⊕_, _⊝_, _⊗_}
 use Rattle.integers.proofs.Machine.{Leaf, given, fits, exact, size-read}
-use Rattle.eisenstein.specs.Values.{ℤ[ω], value, _*ω_}
+use Rattle.eisenstein.specs.Values.{value, _*ω_}
 use Rattle.polynomials.specs.Polynomials.{coefficient}
 use Rattle.etru.proofs.arrays.product.Statement.{statement}
 use Rattle.etru.proofs.arrays.product.Tie as tie

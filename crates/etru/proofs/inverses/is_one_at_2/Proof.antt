@@ -1,11 +1,11 @@
 -- `is_one_at_2` meets its contract.
-use mathlib.Core.Path.{_≡_, sym, _∙_, ap, ap₂}
+use mathlib.Core.Path.{_∙_, ap, ap₂}
 use Prim.Native.Nat.{_≤_}
 use native.Mathlib.Nat.{le-trans}
 use borrow.Author.Needs.{needs}
 use lib.Dec.{lit≤}
 use lib.IntN.{ℤ, pos}
-use Rattle.eisenstein.specs.Values.{ℤ[ω], value, same}
+use Rattle.eisenstein.specs.Values.{value, same}
 use Rattle.eisenstein.specs.Reduction.{mod2}
 use Rattle.etru.proofs.Sizes.{read-64, small-64}
 use Rattle.etru.proofs.inverses.is_one_at_2.Statement.{statement}

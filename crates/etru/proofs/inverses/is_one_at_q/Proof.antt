@@ -8,7 +8,7 @@ use lib.IntN.{ℤ, pos}
 use mir.Syntax.{w32}
 use mir.Val.{toZ, ofZ}
 use mir.Facts.{toZ-ofZ}
-use Rattle.eisenstein.specs.Values.{ℤ[ω], value, same}
+use Rattle.eisenstein.specs.Values.{value, same}
 use Rattle.eisenstein.specs.Reduction.{modQ}
 use Rattle.eisenstein.specs.Calls.{beyond}
 use Rattle.etru.proofs.Sizes.{read-64, small-64}

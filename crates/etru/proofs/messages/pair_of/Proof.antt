@@ -1,15 +1,14 @@
 -- `pair_of` meets its contract.
 use mathlib.Core.Path.{_≡_, sym, _∙_, ap₂, subst}
-use Prim.Native.Nat.{ℕ, _+_, _<_}
+use Prim.Native.Nat.{ℕ, _<_}
 use native.Mathlib.Omega.{arith}
 use borrow.Author.Needs.{needs}
-use lib.Dec.{lit<}
-use lib.IntN.{ℤ, pos}
+use lib.IntN.{pos}
 use mir.Syntax.{w32}
-use mir.Val.{SFits, toZ}
+use mir.Val.{SFits}
 use mir.Facts.{toZ-pos}
 use Rattle.eisenstein.specs.Values.{value}
-use Rattle.packing.specs.Messages.{bitOf, packed, pair}
+use Rattle.packing.specs.Messages.{packed, pair}
 use Rattle.packing.proofs.RoundTrips.{bitOf-lt, pair-11, pair-other}
 use Rattle.etru.proofs.messages.pair_of.Statement.{statement}
 use Rattle.etru.proofs.messages.pair_of.Tie as tie

@@ -1,8 +1,8 @@
 -- `spare_bit_set` meets its contract. The loop's invariant: every bit before k passes the definition's test.
-use mathlib.Core.Path.{_≡_, refl, sym, _∙_, ap, ap₂, subst}
-use mathlib.Core.Bool.{Bool, true, false, not, _||_}
+use mathlib.Core.Path.{_≡_, sym, _∙_, ap, ap₂, subst}
+use mathlib.Core.Bool.{Bool, true, not, _||_}
 use mathlib.Core.List.{List}
-use Prim.Native.Nat.{ℕ, _+_, _-_, _*_, _≤_, _<_}
+use Prim.Native.Nat.{ℕ, _-_, _*_, _≤_}
 use native.Mathlib.Omega.{arith}
 use borrow.Author.Tests.{lt-ltb, le-ltb, eq-eqb, ne-eqb}
 use lib.Dec.{T, eqb, ltb}
@@ -10,7 +10,7 @@ use lib.ListN.{length}
 use Rattle.eisenstein.proofs.Equality.{is-true}
 use Rattle.polynomials.specs.Polynomials.{all}
 use Rattle.polynomials.proofs.Members.{at-all}
-use Rattle.packing.specs.Messages.{messageBytes, bitOf, spareBitSet}
+use Rattle.packing.specs.Messages.{bitOf, spareBitSet}
 use Rattle.etru.proofs.Scans.{all-more, all-fails}
 use Rattle.etru.proofs.messages.spare_bit_set.Statement.{statement}
 use Rattle.etru.proofs.messages.spare_bit_set.Tie as tie

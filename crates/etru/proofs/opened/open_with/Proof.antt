@@ -1,7 +1,6 @@
 -- `open_with` meets its contract.
 use mathlib.Core.Path.{_≡_, refl, sym, _∙_, ap, ap₂, subst}
 use mathlib.Core.List.{List}
-use Prim.Native.Nat.{ℕ, _*_, _<_}
 use borrow.Author.Needs.{needs}
 use lib.IntN.{ℤ}
 use lib.ListN.{length}
@@ -14,7 +13,6 @@ use Rattle.eisenstein.specs.Calls.{beyond}
 use Rattle.polynomials.specs.Polynomials.{Polynomial, coefficient, array, convolution}
 use Rattle.polynomials.proofs.Eisenstein.{convolution-same}
 use Rattle.polynomials.proofs.Arrays.{coefficient-array, array-length}
-use Rattle.packing.specs.Messages.{unpacked}
 use Rattle.packing.proofs.RoundTrips.{unpacked-same}
 use Rattle.etru.proofs.Sizes.{Small, remainders-small}
 use Rattle.etru.proofs.opened.open_with.Statement.{statement}

@@ -1,5 +1,5 @@
 -- `coefficient_of` meets its contract.
-use mathlib.Core.Path.{_≡_, sym, _∙_, ap₂, subst}
+use mathlib.Core.Path.{sym, _∙_, ap₂, subst}
 use mathlib.Core.List.{List, [], _∷_}
 use Prim.Native.Nat.{_≤_, _^_}
 use native.Mathlib.Omega.{arith}
@@ -8,7 +8,7 @@ use mir.Syntax.{w64}
 use Rattle.integers.proofs.Absolute.{natAbs-+}
 use Rattle.integers.proofs.Ring.{Expr, var, _⊕_}
 use Rattle.integers.proofs.Machine.{Leaf, given, fits, exact}
-use Rattle.eisenstein.specs.Values.{ℤ[ω], value, _+ω_}
+use Rattle.eisenstein.specs.Values.{value, _+ω_}
 use Rattle.polynomials.specs.Polynomials.{coefficient}
 use Rattle.polynomials.proofs.Eisenstein.{convolution-split}
 use Rattle.etru.proofs.products.coefficient_of.Statement.{statement}

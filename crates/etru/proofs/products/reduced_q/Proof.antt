@@ -1,12 +1,11 @@
 -- `reduced_q` meets its contract: within the limits nothing is refused.
-use mathlib.Core.Path.{_≡_, sym, _∙_, ap, ap₂, subst}
-use Prim.Native.Nat.{ℕ, _≤_, _^_}
+use mathlib.Core.Path.{_≡_, sym, _∙_, ap, ap₂}
+use Prim.Native.Nat.{_^_}
 use borrow.Author.Needs.{needs}
-use lib.IntN.{natAbs}
 use mir.Facts.{toZ-ofZ}
 use Rattle.refusals.specs.Outcomes.{done}
 use Rattle.refusals.proofs.Checks.{same-done, never-done}
-use Rattle.eisenstein.specs.Values.{ℤ[ω], value}
+use Rattle.eisenstein.specs.Values.{value}
 use Rattle.eisenstein.specs.Reduction.{modQ}
 use Rattle.eisenstein.specs.Calls.{answered, reduceQ}
 use Rattle.eisenstein.proofs.Limits.{not-beyond, reduceQ-done}

@@ -1,22 +1,21 @@
 -- `sealed_at` meets its contract: 2φ × h is φ × h added to itself.
 use mathlib.Core.Path.{_≡_, sym, _∙_, ap, ap₂}
 use mathlib.Core.List.{List, [], _∷_}
-use Prim.Native.Nat.{ℕ, _^_, _≤_}
+use Prim.Native.Nat.{ℕ, _^_}
 use native.Mathlib.Omega.{arith}
 use borrow.Author.Needs.{needs}
-use lib.IntN.{ℤ, natAbs}
+use lib.IntN.{ℤ}
 use lib.Signed.{natAbs-le}
 use mir.Syntax.{w32, w64}
 use mir.Val.{SFits, toZ, ofZ}
 use mir.Facts.{toZ-ofZ}
 use Rattle.integers.proofs.Ring.{Expr, var, _⊕_}
 use Rattle.integers.proofs.Machine.{Leaf, given, fits, exact, size-read, cast-fits}
-use Rattle.eisenstein.specs.Values.{ℤ[ω], value, _+ω_}
+use Rattle.eisenstein.specs.Values.{value, _+ω_}
 use Rattle.eisenstein.specs.Reduction.{modQ}
 use Rattle.eisenstein.specs.Calls.{beyond}
 use Rattle.polynomials.specs.Polynomials.{Polynomial, coefficient, convolution}
 use Rattle.polynomials.proofs.Promises.{convolution-commutes, convolution-adds}
-use Rattle.packing.specs.Messages.{packed}
 use Rattle.etru.proofs.sealed.sealed_at.Statement.{statement}
 use Rattle.etru.proofs.sealed.sealed_at.Tie as tie
 

@@ -1,5 +1,5 @@
 -- `equal` meets its contract.
-use mathlib.Core.Path.{_≡_, sym, _∙_, ap}
+use mathlib.Core.Path.{sym, _∙_, ap}
 use mathlib.Core.Bool.{Bool, _&&_}
 use mir.Syntax.{w64}
 use mir.Val.{ofZ}

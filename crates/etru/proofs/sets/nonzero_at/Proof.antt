@@ -1,5 +1,5 @@
 -- `nonzero_at` meets its contract.
-use mathlib.Core.Path.{_≡_, sym, _∙_, ap, ap₂}
+use mathlib.Core.Path.{_∙_, ap, ap₂}
 use mathlib.Core.Bool.{not}
 use borrow.Author.Needs.{needs}
 use mir.Facts.{toZ-ofZ}

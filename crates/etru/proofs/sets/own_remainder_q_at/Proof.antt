@@ -1,6 +1,6 @@
 -- `own_remainder_q_at` meets its contract.
 use mathlib.Core.Path.{_≡_, sym, _∙_, ap, ap₂, subst}
-use Prim.Native.Nat.{ℕ, _≤_, _^_}
+use Prim.Native.Nat.{_≤_, _^_}
 use native.Mathlib.Nat.{le-trans}
 use borrow.Author.Needs.{needs}
 use lib.Dec.{lit<, lit≤}
@@ -9,7 +9,7 @@ use mir.Syntax.{w32, w64}
 use mir.Val.{toZ, ofZ}
 use mir.Facts.{toZ-ofZ}
 use Rattle.integers.proofs.Machine.{cast-fits, cast-read, sfits-within}
-use Rattle.eisenstein.specs.Values.{ℤ[ω], value, same}
+use Rattle.eisenstein.specs.Values.{value, same}
 use Rattle.eisenstein.specs.Reduction.{modQ}
 use Rattle.eisenstein.specs.Calls.{beyond}
 use Rattle.polynomials.specs.Polynomials.{coefficient}
