@@ -1,20 +1,17 @@
 -- `convolve_2` meets its contract. The loop's invariant: the coefficients that are stored are right.
 use mathlib.Core.Path.{_≡_, sym, _∙_, ap, ap₂, subst}
 use mathlib.Core.List.{List}
-use Prim.Native.Nat.{ℕ, _+_, _-_, _*_, _^_, _≤_, _<_}
+use Prim.Native.Nat.{ℕ, _+_, _-_, _*_, _≤_, _<_}
 use native.Mathlib.Omega.{arith}
 use native.Mathlib.Nat.{le-trans}
-use lib.Dec.{lit<, lit≤}
-use lib.IntN.{ℤ, natAbs}
+use lib.Dec.{lit≤}
+use lib.IntN.{ℤ}
 use lib.ListN.{length}
-use mir.Syntax.{w64}
-use mir.Val.{toZ, ofZ}
-use mir.Facts.{toZ-ofZ}
-use Rattle.integers.proofs.Machine.{sfits-within}
 use Rattle.eisenstein.specs.Values.{value}
 use Rattle.eisenstein.specs.Reduction.{mod2}
 use Rattle.polynomials.specs.Polynomials.{coefficient, convolution}
 use Rattle.polynomials.proofs.Arrays.{filled-more, stored-length, array-by-coefficients}
+use Rattle.etru.proofs.Sizes.{read-64, small-64}
 use Rattle.etru.proofs.products.convolve_2.Statement.{statement}
 use Rattle.etru.proofs.products.convolve_2.Tie as tie
 
@@ -24,13 +21,6 @@ Inv-loop x y n out₀ i₀ out i =
 
 abbrev μ-loop : tie.MeasureT-loop
 μ-loop x y n out₀ i₀ out i = n - i
-
--- a sum as it is handed to the reduction
-back : (z : ℤ) → natAbs z ≤ 2 ^ 38 → toZ w64 (ofZ w64 z) ≡ z
-back z h = toZ-ofZ (sfits-within z h (lit< tt))
-
-small : (z : ℤ) → natAbs z ≤ 2 ^ 38 → natAbs (toZ w64 (ofZ w64 z)) ≤ 2 ^ 40
-small z h = subst (λ (y : ℤ). natAbs y ≤ 2 ^ 40) (sym (back z h)) (le-trans h (lit≤ tt))
 
 loop-again : tie.Need-loop-again Inv-loop μ-loop
 loop-again c =
@@ -43,7 +33,7 @@ loop-again c =
       ap length e ∙ stored-length (l .loop .out) (l .loop .i) (r .result .a) (r .result .b) ∙ l .loop .inv .1,
       subst (λ (o : List ℤ). (k : ℕ) → k < l .loop .i + 1 → coefficient o k ≡ mod2 (convolution (s .args .n) (coefficient (s .args .x .now)) (coefficient (s .args .y .now)) k)) (sym e)
           (filled-more (l .loop .out) (l .loop .i) (r .result .a) (r .result .b) (λ k. mod2 (convolution (s .args .n) (coefficient (s .args .x .now)) (coefficient (s .args .y .now)) k)) (omega (arith, l .loop .inv .1, c .before .before .before .before .before .before .before .loop-test .taken)) (l .loop .inv .2)
-          (r .ensures ∙ ap (mod2) (ap₂ value (back (w .result .a) (w .ensures .1)) (back (w .result .b) (w .ensures .2)) ∙ w .ensures .0))),
+          (r .ensures ∙ ap (mod2) (ap₂ value (read-64 (w .result .a) (le-trans (w .ensures .1) (lit≤ tt))) (read-64 (w .result .b) (le-trans (w .ensures .2) (lit≤ tt))) ∙ w .ensures .0))),
     )
 
 pub convolve-2-spec : {M : Type 1} → statement M
@@ -57,7 +47,7 @@ convolve-2-spec =
     (λ c κs.
     let w = c .before .before .before .coefficient-of in
     let s = c .before .before .before .before .before .before in
-    (small (w .result .a) (w .ensures .1), small (w .result .b) (w .ensures .2)))
+    (small-64 (w .result .a) (le-trans (w .ensures .1) (lit≤ tt)), small-64 (w .result .b) (le-trans (w .ensures .2) (lit≤ tt))))
     (λ c κs. (omega arith, omega (arith, c .before .before .before .before .before .before .loop .inv .1)))
     (λ c. omega arith)
     (λ c. omega arith)

@@ -1,21 +1,21 @@
 -- `convolve_q` meets its contract. The loop's invariant: the coefficients that are stored are right.
 use mathlib.Core.Path.{_≡_, sym, _∙_, ap, ap₂, subst}
 use mathlib.Core.List.{List}
-use Prim.Native.Nat.{ℕ, _+_, _-_, _*_, _^_, _≤_, _<_}
+use Prim.Native.Nat.{ℕ, _+_, _-_, _*_, _≤_, _<_}
 use native.Mathlib.Omega.{arith}
 use native.Mathlib.Nat.{le-trans}
-use lib.Dec.{lit<, lit≤}
-use lib.IntN.{ℤ, natAbs}
+use lib.Dec.{lit≤}
+use lib.IntN.{ℤ}
 use lib.ListN.{length}
-use mir.Syntax.{w32, w64}
+use mir.Syntax.{w32}
 use mir.Val.{toZ, ofZ}
 use mir.Facts.{toZ-ofZ}
-use Rattle.integers.proofs.Machine.{sfits-within}
 use Rattle.eisenstein.specs.Values.{ℤ[ω], value}
 use Rattle.eisenstein.specs.Reduction.{modQ}
 use Rattle.eisenstein.specs.Calls.{beyond}
 use Rattle.polynomials.specs.Polynomials.{coefficient, convolution}
 use Rattle.polynomials.proofs.Arrays.{filled-more, stored-length, array-by-coefficients}
+use Rattle.etru.proofs.Sizes.{read-64, small-64}
 use Rattle.etru.proofs.products.convolve_q.Statement.{statement}
 use Rattle.etru.proofs.products.convolve_q.Tie as tie
 
@@ -29,13 +29,6 @@ abbrev μ-loop : tie.MeasureT-loop
 q-read : (c : tie.Start Inv-loop μ-loop) → value (toZ w32 (ofZ w32 (c .args .c))) (toZ w32 (ofZ w32 (c .args .d))) ≡ value (c .args .c) (c .args .d)
 q-read c = ap₂ value (toZ-ofZ (c .fits .c)) (toZ-ofZ (c .fits .d))
 
--- a sum as it is handed to the reduction
-back : (z : ℤ) → natAbs z ≤ 2 ^ 38 → toZ w64 (ofZ w64 z) ≡ z
-back z h = toZ-ofZ (sfits-within z h (lit< tt))
-
-small : (z : ℤ) → natAbs z ≤ 2 ^ 38 → natAbs (toZ w64 (ofZ w64 z)) ≤ 2 ^ 40
-small z h = subst (λ (y : ℤ). natAbs y ≤ 2 ^ 40) (sym (back z h)) (le-trans h (lit≤ tt))
-
 loop-again : tie.Need-loop-again Inv-loop μ-loop
 loop-again c =
     let l = c .before .before .before .before .before .before .before .before in
@@ -47,7 +40,7 @@ loop-again c =
       ap length e ∙ stored-length (l .loop .out) (l .loop .i) (r .result .a) (r .result .b) ∙ l .loop .inv .1,
       subst (λ (o : List ℤ). (k : ℕ) → k < l .loop .i + 1 → coefficient o k ≡ modQ (value (toZ w32 (ofZ w32 (s .args .c))) (toZ w32 (ofZ w32 (s .args .d)))) (convolution (s .args .n) (coefficient (s .args .x .now)) (coefficient (s .args .y .now)) k)) (sym e)
           (filled-more (l .loop .out) (l .loop .i) (r .result .a) (r .result .b) (λ k. modQ (value (toZ w32 (ofZ w32 (s .args .c))) (toZ w32 (ofZ w32 (s .args .d)))) (convolution (s .args .n) (coefficient (s .args .x .now)) (coefficient (s .args .y .now)) k)) (omega (arith, l .loop .inv .1, c .before .before .before .before .before .before .before .loop-test .taken)) (l .loop .inv .2)
-          (r .ensures ∙ ap (modQ (value (toZ w32 (ofZ w32 (s .args .c))) (toZ w32 (ofZ w32 (s .args .d))))) (ap₂ value (back (w .result .a) (w .ensures .1)) (back (w .result .b) (w .ensures .2)) ∙ w .ensures .0))),
+          (r .ensures ∙ ap (modQ (value (toZ w32 (ofZ w32 (s .args .c))) (toZ w32 (ofZ w32 (s .args .d))))) (ap₂ value (read-64 (w .result .a) (le-trans (w .ensures .1) (lit≤ tt))) (read-64 (w .result .b) (le-trans (w .ensures .2) (lit≤ tt))) ∙ w .ensures .0))),
     )
 
 pub convolve-q-spec : {M : Type 1} → statement M
@@ -61,7 +54,7 @@ convolve-q-spec =
     (λ c κs.
     let w = c .before .before .before .coefficient-of in
     let s = c .before .before .before .before .before .before in
-    (small (w .result .a) (w .ensures .1), small (w .result .b) (w .ensures .2), ap (beyond 4095) (q-read s) ∙ s .pre .0 .4, (λ e. s .pre .0 .5 (sym (q-read s) ∙ e))))
+    (small-64 (w .result .a) (le-trans (w .ensures .1) (lit≤ tt)), small-64 (w .result .b) (le-trans (w .ensures .2) (lit≤ tt)), ap (beyond 4095) (q-read s) ∙ s .pre .0 .4, (λ e. s .pre .0 .5 (sym (q-read s) ∙ e))))
     (λ c κs. (omega arith, omega (arith, c .before .before .before .before .before .before .loop .inv .1)))
     (λ c. omega arith)
     (λ c. omega arith)
