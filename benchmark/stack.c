@@ -1,0 +1,74 @@
+// Measures the stack that each call takes at N = 1,024: each runs on a filled stack of its own, and what it changed is counted.
+#include <pthread.h>
+#include <stdint.h>
+#include <stdio.h>
+#include <stdlib.h>
+#include <string.h>
+
+#define N 1024
+#define SIZE (256 * 1024)
+#define FILL 0xA5
+
+uint32_t etru_convolve(uint32_t n, int32_t c, int32_t d, uint32_t s, uint32_t t, const int32_t *x, size_t x_count, const int32_t *y, size_t y_count, int32_t *out, size_t out_count);
+uint32_t etru_check_key(uint32_t n, int32_t c, int32_t d, uint32_t s, uint32_t t, const int32_t *f, size_t f_count, const int32_t *f2, size_t f2_count, const int32_t *fq, size_t fq_count, const int32_t *g, size_t g_count, int32_t *h, size_t h_count);
+uint32_t etru_seal(uint32_t n, int32_t c, int32_t d, uint32_t s, uint32_t t, const int32_t *h, size_t h_count, const int32_t *phi, size_t phi_count, const uint8_t *message, size_t message_count, int32_t *e, size_t e_count);
+uint32_t etru_open(uint32_t n, int32_t c, int32_t d, uint32_t s, uint32_t t, const int32_t *f, size_t f_count, const int32_t *f2, size_t f2_count, const int32_t *e, size_t e_count, uint8_t *message, size_t message_count);
+uint32_t etru_pack(uint32_t n, const uint8_t *message, size_t message_count, int32_t *m, size_t m_count);
+uint32_t etru_unpack(uint32_t n, const int32_t *m, size_t m_count, uint8_t *message, size_t message_count);
+
+// f = F2 = Fq = 1 and g = φ = 1 + ωX + (−1 − ω)X², as in document 01's small key, with q = 15.
+static int32_t one[2 * N] = {1}, g[2 * N] = {1, 0, 0, 1, -1, -1}, h[2 * N], e[2 * N], out[2 * N];
+static uint8_t message[N / 4], opened[N / 4];
+
+static uint32_t convolve(void) { return etru_convolve(N, 15, 0, 3, 1, one, 2 * N, g, 2 * N, out, 2 * N); }
+static uint32_t check_key(void) { return etru_check_key(N, 15, 0, 3, 1, one, 2 * N, one, 2 * N, one, 2 * N, g, 2 * N, h, 2 * N); }
+static uint32_t seal(void) { return etru_seal(N, 15, 0, 3, 1, h, 2 * N, g, 2 * N, message, N / 4, e, 2 * N); }
+static uint32_t open_sealed(void) { return etru_open(N, 15, 0, 3, 1, one, 2 * N, one, 2 * N, e, 2 * N, opened, N / 4); }
+static uint32_t pack(void) { return etru_pack(N, message, N / 4, out, 2 * N); }
+static uint32_t unpack(void) { return etru_unpack(N, out, 2 * N, opened, N / 4); }
+static uint32_t nothing(void) { return 0; }
+
+static uint32_t (*call)(void);
+static uint32_t number;
+
+static void *run(void *unused) {
+    number = call();
+    return unused;
+}
+
+// The bytes of the stack that a call changes.
+static size_t used(uint32_t (*function)(void)) {
+    uint8_t *stack = aligned_alloc(4096, SIZE);
+    pthread_attr_t attributes;
+    pthread_t thread;
+    call = function;
+    memset(stack, FILL, SIZE);
+    pthread_attr_init(&attributes);
+    if (pthread_attr_setstack(&attributes, stack, SIZE) || pthread_create(&thread, &attributes, run, NULL) || pthread_join(thread, NULL) || number != 0) {
+        printf("a call was refused or did not run\n");
+        exit(1);
+    }
+    size_t untouched = 0;
+    while (stack[untouched] == FILL) {
+        untouched++;
+    }
+    free(stack);
+    return SIZE - untouched;
+}
+
+int main(void) {
+    static const struct {
+        const char *name;
+        uint32_t (*function)(void);
+    } calls[] = {{"etru_convolve", convolve}, {"etru_check_key", check_key}, {"etru_seal", seal}, {"etru_open", open_sealed}, {"etru_pack", pack}, {"etru_unpack", unpack}};
+    for (size_t i = 0; i < sizeof message; i++) {
+        message[i] = (uint8_t)(i * 37);
+    }
+    size_t base = used(nothing), largest = 0;
+    for (size_t i = 0; i < sizeof calls / sizeof calls[0]; i++) {
+        size_t bytes = used(calls[i].function) - base;
+        largest = bytes > largest ? bytes : largest;
+        printf("%-15s %6zu bytes of stack\n", calls[i].name, bytes);
+    }
+    return memcmp(message, opened, sizeof message) != 0 || largest > 64 * 1024;
+}
