@@ -49,12 +49,20 @@ fn full_5(n: usize, x: usize, y: usize, z: usize, u: usize, v: usize) -> bool
     false
 }
 
+// "N/4 bytes, rounded up"
+fn message_bytes(n: usize) -> usize
+    requires { ⌜ n ≤ 1024 ⌝ }
+    ensures { λ r. ⌜ r ≡ messageBytes n ⌝ }
+{
+    (n + 3) / 4
+}
+
 // A message's length, and three arrays of full length.
 fn full_with_message(n: usize, message: usize, x: usize, y: usize, z: usize) -> bool
     requires { ⌜ n ≤ 1024 ⌝ }
     ensures { λ r. ⌜ r ≡ (eqb message (messageBytes n) && (full n x && (full n y && full n z))) ⌝ }
 {
-    if message == (n + 3) / 4 {
+    if message == message_bytes(n) {
         return full_3(n, x, y, z);
     }
     false
@@ -65,7 +73,7 @@ fn full_message_and_array(n: usize, message: usize, x: usize) -> bool
     requires { ⌜ n ≤ 1024 ⌝ }
     ensures { λ r. ⌜ r ≡ (eqb message (messageBytes n) && full n x) ⌝ }
 {
-    if message == (n + 3) / 4 {
+    if message == message_bytes(n) {
         return x == 2 * n;
     }
     false

@@ -1,5 +1,5 @@
 -- `full_message_and_array` meets its contract.
-use mathlib.Core.Path.{sym, ap}
+use mathlib.Core.Path.{sym, _∙_, ap}
 use mathlib.Core.Bool.{Bool, _&&_}
 use borrow.Author.Needs.{needs}
 use borrow.Author.Tests.{eq-eqb, ne-eqb}
@@ -14,7 +14,11 @@ pub full-message-and-array-spec : {M : Type 1} → statement M
 full-message-and-array-spec =
     tie.close
     (tie.spec
+    (λ c κs. search needs)
     (λ c. search needs)
-    (λ c. search needs)
-    (λ c. sym (ap (λ (t : Bool). t && last (c .before)) (eq-eqb _ _ (c .if1 .taken))))
-    (λ c. sym (ap (λ (t : Bool). t && last (c .before)) (ne-eqb _ _ (c .if1 .left)))))
+    (λ c.
+    let m = c .before in
+    sym (ap (λ (t : Bool). t && last (m .before)) (eq-eqb _ _ (c .if1 .taken ∙ m .message-bytes .ensures))))
+    (λ c.
+    let m = c .before in
+    sym (ap (λ (t : Bool). t && last (m .before)) (ne-eqb _ _ (λ e. c .if1 .left (e ∙ sym (m .message-bytes .ensures)))))))

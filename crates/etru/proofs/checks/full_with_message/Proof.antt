@@ -15,7 +15,11 @@ pub full-with-message-spec : {M : Type 1} → statement M
 full-with-message-spec =
     tie.close
     (tie.spec
-    (λ c. search needs)
     (λ c κs. search needs)
-    (λ c. c .full-3 .ensures ∙ sym (ap (λ (t : Bool). t && rest (c .before .before)) (eq-eqb _ _ (c .before .if1 .taken))))
-    (λ c. sym (ap (λ (t : Bool). t && rest (c .before)) (ne-eqb _ _ (c .if1 .left)))))
+    (λ c κs. search needs)
+    (λ c.
+    let m = c .before .before in
+    c .full-3 .ensures ∙ sym (ap (λ (t : Bool). t && rest (m .before)) (eq-eqb _ _ (c .before .if1 .taken ∙ m .message-bytes .ensures))))
+    (λ c.
+    let m = c .before in
+    sym (ap (λ (t : Bool). t && rest (m .before)) (ne-eqb _ _ (λ e. c .if1 .left (e ∙ sym (m .message-bytes .ensures)))))))
