@@ -1,6 +1,6 @@
 -- Demand 3 of the definitions: what an accepted key gives, that sealing and opening then pass each check, and that they undo each other.
 use mathlib.Core.Path.{_≡_, refl, sym, _∙_, ap, subst}
-use mathlib.Core.Bool.{Bool, true, false, not, _&&_}
+use mathlib.Core.Bool.{_&&_}
 use mathlib.Core.List.{List}
 use mathlib.Core.Logic.{_≢_}
 use Prim.Native.Nat.{ℕ, _+_, _*_, _<_}
@@ -22,7 +22,7 @@ use Rattle.polynomials.specs.Polynomials.{Polynomial, coefficient, array, convo
 use Rattle.polynomials.proofs.Arrays.{coefficient-array, array-length}
 use Rattle.polynomials.proofs.Members.{all-at, at-all, sum-zero-units}
 use Rattle.packing.specs.Messages.{messageBytes, packed, unpacked, spareBitSet}
-use Rattle.packing.proofs.RoundTrips.{packed-unpacks, packed-reduced, unpacked-same}
+use Rattle.packing.proofs.RoundTrips.{is-unset, packed-unpacks, packed-reduced, unpacked-same}
 use Rattle.etru.specs.Scheme.{publicKey, sealed, opened}
 use Rattle.etru.specs.Calls.{full, keyChecks, keyCheck, sealingChecks, sealing, openingChecks, opening}
 use Rattle.etru.specs.Promises.{Setting}
@@ -122,10 +122,6 @@ module _ {p : ParameterSet} {f F2 Fq g h φ : List ℤ} {message : List ℕ} (ke
   unfolding e sealed
   e-reduced = reduced-array (p .N) (p .q) (λ i. convolution (p .N) (λ j. coefficient φ j +ω coefficient φ j) (coefficient h) i +ω packed message i) q≢0
 
-  unset : (t : Bool) → T (not t) → t ≡ false
-  unset true x = absurd x
-  unset false x = refl
-
   seals : sealing p h φ message (2 * p .N) ≡ done e
   unfolding sealing sealingChecks e
   seals =
@@ -134,7 +130,7 @@ module _ {p : ParameterSet} {f F2 Fq g h φ : List ℤ} {message : List ℕ} (ke
       (equal-4 {d = 2 * p .N} (msg .full) h-full (ephemeral .full) refl)
       ∙ holds-passed 12 (reducedQ (p .N) (p .q) (coefficient h)) _ _ h-reduced
       ∙ holds-passed 10 (unitsOfSumZero (p .N) (p .s) (coefficient φ)) _ _ (ephemeral .in-set)
-      ∙ passed 15 _ _ (unset (spareBitSet (p .N) message) (msg .no-spare))
+      ∙ passed 15 _ _ (is-unset (spareBitSet (p .N) message) (msg .no-spare))
       ∙ none-left _
 
   setting : Setting p (coefficient f) (coefficient F2) (coefficient Fq) (coefficient g) (coefficient h) (coefficient φ) (packed message) (coefficient e)

@@ -303,7 +303,7 @@ reduced2-same N {m} {m′} h t =
 not-set : (t : Bool) → t ≡ false → T (not t)
 not-set t e = subst (λ (u : Bool). T (not u)) (sym e) tt
 
-is-unset : (t : Bool) → T (not t) → t ≡ false
+pub is-unset : (t : Bool) → T (not t) → t ≡ false
 is-unset true h = absurd h
 is-unset false h = refl
 
