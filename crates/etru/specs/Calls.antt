@@ -12,6 +12,8 @@ use Rattle.parameters.specs.Sets.{ParameterSet, parameterChecks}
 use Rattle.polynomials.specs.Polynomials.{coefficient, array, convolution, one, unitsOnly, unitsOfSumZero, reducedQ, reduced2, congruentQ, congruent2}
 use Rattle.packing.specs.Messages.{messageBytes, packed, unpacked, spareBitSet}
 use Rattle.etru.specs.Scheme.{publicKey, sealed, opened}
+use Rattle.etru.specs.declared.ArraySet.{ArraySet}
+use Rattle.etru.specs.declared.ArraySet.the-variants.{F, G, ReducedModulo2, ReducedModuloQ}
 
 -- an array, or an output's room, of 2N numbers
 abbrev pub full : ℕ → ℕ → Bool
@@ -70,3 +72,23 @@ openingChecks N q t f F2 e room =
 unfoldable pub opening : ParameterSet → (f F2 e : List ℤ) → ℕ → Outcome (List ℕ)
 opening p f F2 e room =
     outcome (parameterChecks p ++ openingChecks (p .N) (p .q) (p .t) f F2 e room) (unpacked (p .N) (opened p (coefficient f) (coefficient F2) (coefficient e)))
+
+-- "Arrays", refusals 8, 9, 11 and 12: whether an array is in a set, and the refusal if it is not.
+abbrev pub inSet : ParameterSet → ArraySet → List ℤ → Bool
+inSet p F x = unitsOnly (p .N) (p .t) (coefficient x)
+inSet p G x = unitsOfSumZero (p .N) (p .s) (coefficient x)
+inSet p ReducedModulo2 x = reduced2 (p .N) (coefficient x)
+inSet p ReducedModuloQ x = reducedQ (p .N) (p .q) (coefficient x)
+
+abbrev pub notInSet : ArraySet → ℕ
+notInSet F = 8
+notInSet G = 9
+notInSet ReducedModulo2 = 11
+notInSet ReducedModuloQ = 12
+
+-- One array on its own: parameters, 7, then the refusal of its set.
+unfoldable pub arrayChecks : ParameterSet → ArraySet → List ℤ → List Check
+arrayChecks p a x = 7 if not (full (p .N) (length x)) ∷ notInSet a if not (inSet p a x) ∷ []
+
+unfoldable pub arrayCheck : ParameterSet → ArraySet → List ℤ → Outcome (Unit {0})
+arrayCheck p a x = outcome (parameterChecks p ++ arrayChecks p a x) tt

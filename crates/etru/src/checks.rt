@@ -5,7 +5,7 @@ ghost use mathlib.Core.Logic.{_≢_};
 ghost use Prim.Native.Nat.{_*_, _≤_};
 ghost use lib.Dec.{eqb};
 ghost use lib.ListN.{length};
-ghost use Rattle.refusals.specs.Outcomes.{outcome};
+ghost use Rattle.refusals.specs.Outcomes.{refused, outcome};
 ghost use Rattle.refusals.specs.Numbers.{answered};
 ghost use Rattle.eisenstein.specs.Values.{value, 𝟘};
 ghost use Rattle.eisenstein.specs.Calls.{beyond};
@@ -13,7 +13,8 @@ ghost use Rattle.parameters.specs.Sets.{set};
 ghost use Rattle.polynomials.specs.Polynomials.{coefficient, reducedQ};
 ghost use Rattle.packing.specs.Messages.{messageBytes};
 ghost use Rattle.packing.specs.Calls.{packingChecks, unpackingChecks};
-ghost use Rattle.etru.specs.Calls.{full, convolvingChecks, keyChecks, sealingChecks, openingChecks};
+ghost use Rattle.etru.specs.Calls.{full, convolvingChecks, keyChecks, sealingChecks, openingChecks, inSet, notInSet, arrayChecks};
+use crate::ArraySet;
 use crate::inverses::is_one_2;
 use crate::inverses::is_one_q;
 use crate::messages::spare_bit_set;
@@ -230,6 +231,50 @@ pub(crate) fn unpacking_refusal(n: u32, m: &[i32], room: usize) -> Answer
     }
     if !reduced_modulo_2(m, n as usize) {
         return Answer::Refused(Refusal::NotReducedModulo2);
+    }
+    Answer::Done
+}
+
+fn in_set(which: ArraySet, x: &[i32], n: usize, c: i32, d: i32, s: usize, t: usize) -> bool
+    requires { ⌜ (n ≤ 1024) × (length (now x) ≡ 2 * n) × (beyond 4095 (value c d) ≡ false) × (value c d ≢ 𝟘) ⌝ }
+    ensures { λ r. ⌜ r ≡ inSet (set n c d s t) which (now (x .entry)) ⌝ }
+{
+    match which {
+        ArraySet::F => units_only(x, n, t),
+        ArraySet::G => units_of_sum_zero(x, n, s),
+        ArraySet::ReducedModulo2 => reduced_modulo_2(x, n),
+        ArraySet::ReducedModuloQ => reduced_modulo_q(x, n, c, d),
+    }
+}
+
+fn not_in_set(which: ArraySet) -> Answer
+    ensures { λ r. ⌜ answered r ≡ refused (notInSet which) ⌝ }
+{
+    match which {
+        ArraySet::F => Answer::Refused(Refusal::FNotInItsSet),
+        ArraySet::G => Answer::Refused(Refusal::GNotInItsSet),
+        ArraySet::ReducedModulo2 => Answer::Refused(Refusal::NotReducedModulo2),
+        ArraySet::ReducedModuloQ => Answer::Refused(Refusal::NotReducedModuloQ),
+    }
+}
+
+pub(crate) fn array_refusal(
+    which: ArraySet,
+    x: &[i32],
+    n: usize,
+    c: i32,
+    d: i32,
+    s: usize,
+    t: usize,
+) -> Answer
+    requires { ⌜ (n ≤ 1024) × (beyond 4095 (value c d) ≡ false) × (value c d ≢ 𝟘) ⌝ }
+    ensures { λ r. ⌜ answered r ≡ outcome (arrayChecks (set n c d s t) which (now (x .entry))) tt ⌝ }
+{
+    if x.len() != 2 * n {
+        return Answer::Refused(Refusal::WrongLength);
+    }
+    if !in_set(which, x, n, c, d, s, t) {
+        return not_in_set(which);
     }
     Answer::Done
 }

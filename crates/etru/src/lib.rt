@@ -7,7 +7,7 @@ ghost use Rattle.refusals.specs.Outcomes.{number, written};
 ghost use Rattle.refusals.specs.Numbers.{answered};
 ghost use Rattle.parameters.specs.Sets.{setOf};
 ghost use Rattle.packing.specs.Calls.{packing, unpacking};
-ghost use Rattle.etru.specs.Calls.{convolving, keyCheck, sealing, opening};
+ghost use Rattle.etru.specs.Calls.{convolving, keyCheck, sealing, opening, arrayCheck};
 
 mod accepted;
 mod arrays;
@@ -21,6 +21,14 @@ mod sets;
 
 use parameters::Parameters;
 use refusals::Answer;
+
+// What an array can be held to: the set of f or of g, or that it is reduced.
+pub enum ArraySet {
+    F,
+    G,
+    ReducedModulo2,
+    ReducedModuloQ,
+}
 
 // x × y reduced modulo q, to out.
 pub fn convolve(p: Parameters, x: &[i32], y: &[i32], out: &mut [i32]) -> Answer
@@ -118,6 +126,21 @@ pub fn unpack(n: u32, m: &[i32], message: &mut [u8]) -> Answer
             messages::unpack_into(n as usize, m, message);
             Answer::Done
         }
+        Answer::Refused(refusal) => Answer::Refused(refusal),
+    }
+}
+
+// Whether one array of a parameter set is in a set.
+pub fn check_array(p: Parameters, which: ArraySet, x: &[i32]) -> Answer
+    ensures { λ r. ⌜ answered r ≡ arrayCheck (setOf p) which (now (x .entry)) ⌝ }
+{
+    let n = p.n;
+    let c = p.c;
+    let d = p.d;
+    let s = p.s;
+    let t = p.t;
+    match p.check() {
+        Answer::Done => checks::array_refusal(which, x, n as usize, c, d, s as usize, t as usize),
         Answer::Refused(refusal) => Answer::Refused(refusal),
     }
 }
