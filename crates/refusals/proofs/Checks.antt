@@ -112,6 +112,12 @@ outcome-carried f (c ∷ cs) a = ap (unless (c .applies) (c .number)) (outcome-c
 pub done-with : {A : Type 0} (cs : List Check) (a : A) → outcome cs (tt {0}) ≡ done (tt {0}) → outcome cs a ≡ done a
 done-with cs a e = outcome-carried (λ _. a) cs (tt {0}) ∙ ap (carried (λ _. a)) e ∙ carried-done (λ _. a) (tt {0})
 
+-- what is done has passed all of its checks, and gives the value
+pub done-parts : {A : Type 0} (cs : List Check) (a b : A) → outcome cs a ≡ done b → (outcome cs (tt {0}) ≡ done (tt {0})) × (a ≡ b)
+done-parts cs a b e =
+    let p = outcome-carried (λ _. tt {0}) cs a ∙ ap (carried (λ _. tt {0})) e ∙ carried-done (λ _. tt {0}) b in
+    (p, same-done (sym (done-with cs a p) ∙ e))
+
 pub refused-with : {A : Type 0} (cs : List Check) (a : A) (n : ℕ) → outcome cs (tt {0}) ≡ refused n → outcome cs a ≡ refused n
 refused-with cs a n e = outcome-carried (λ _. a) cs (tt {0}) ∙ ap (carried (λ _. a)) e ∙ carried-refused (λ _. a) n
 
@@ -142,3 +148,6 @@ done-by-number (c ∷ cs) a p e = go (c .applies) (done-by-number cs a (and-yes 
 pub refused-by-number : {A : Type 0} (o : Outcome A) (n : ℕ) → 0 < n → number o ≡ n → o ≡ refused n
 refused-by-number (done a) n l e = absurd (omega arith)
 refused-by-number (refused m) n l e = ap refused e
+
+pub refused-plain : {A : Type 0} (cs : List Check) (a : A) (n : ℕ) → 0 < n → outcome cs a ≡ refused n → outcome cs (tt {0}) ≡ refused n
+refused-plain cs a n l e = refused-by-number (outcome cs (tt {0})) n l (same-number cs (tt {0}) a ∙ ap number e)

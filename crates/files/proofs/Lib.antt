@@ -1,0 +1,10 @@
+pub mod ArraysOfKinds
+pub mod Bounds
+pub mod Filling
+pub mod Handed
+pub mod Lists
+pub mod Numbers
+pub mod Passed
+pub mod RoundTrips
+pub mod SetChecks
+pub mod Stores

@@ -1,0 +1,113 @@
+-- Lists of signed 16-bit numbers, and their bytes.
+use mathlib.Core.Path.{_≡_, refl, _∙_, ap, ap₂}
+use mathlib.Core.List.{List, [], _∷_, _++_}
+use Prim.Native.Nat.{ℕ, zero, suc, _+_, _-_, _*_, _/_, _%_, _^_, _≤_, _<_}
+use native.Mathlib.Omega.{arith}
+use native.Mathlib.Decide.{decLt}
+use lib.Dec.{T, lit≤}
+use lib.IntN.{ℤ, pos, natAbs}
+use lib.ListN.{length, getD, take, drop, length-take, length-drop}
+use lib.Seq.{getD-take, getD-drop}
+use Rattle.refusals.specs.Outcomes.{done, outcome}
+use Rattle.refusals.proofs.Checks.{done-holds}
+use Rattle.parameters.specs.Sets.{ParameterSet}
+use Rattle.polynomials.specs.Polynomials.{coefficient}
+use Rattle.polynomials.proofs.Members.{sum-zero-units}
+use Rattle.packing.specs.Promises.{Bytes}
+use Rattle.etru.specs.Calls.{inSet, notInSet}
+use Rattle.etru.specs.declared.ArraySet.{ArraySet}
+use Rattle.etru.specs.declared.ArraySet.the-variants.{F, G, ReducedModulo2, ReducedModuloQ}
+use Rattle.etru.proofs.AcceptedParameters.{Accepted, modulus-nonzero}
+use Rattle.etru.proofs.Sizes.{Small, units-small, reduced2-small, reducedQ-small}
+use Rattle.files.specs.Files.{bytes16, bits16, signed16, unsignedAt, signedAt, numbersFrom, bytesOf}
+use Rattle.files.specs.Calls.{setChecks}
+use Rattle.files.proofs.Numbers.{Fits16, fits-small, signed-bits, bits-signed, number-bytes, bytes-number, number-lt}
+
+-- ---- one number, by its place
+
+pub numbers-at : (l : List ℕ) (i : ℕ) → 2 * i + 1 < length l → getD (numbersFrom l) i (pos 0) ≡ signedAt l (2 * i)
+unfolding numbersFrom unsignedAt signedAt
+numbers-at [] i h = absurd (omega arith)
+numbers-at (high ∷ []) i h = absurd (omega arith)
+numbers-at (high ∷ low ∷ l) zero h = refl
+numbers-at (high ∷ low ∷ l) (suc i) h =
+    numbers-at l i (omega arith) ∙ ap (signedAt (high ∷ low ∷ l)) {x = suc (suc (2 * i))} {y = 2 * suc i} (omega arith)
+
+pub bytes-high : (l : List ℤ) (i : ℕ) → getD (bytesOf l) (2 * i) 0 ≡ bits16 (getD l i (pos 0)) / 256
+unfolding bytesOf bytes16 bits16
+bytes-high [] i = refl
+bytes-high (z ∷ l) zero = refl
+bytes-high (z ∷ l) (suc i) =
+    ap (λ (k : ℕ). getD (bytesOf (z ∷ l)) k 0) {x = 2 * suc i} {y = suc (suc (2 * i))} (omega arith) ∙ bytes-high l i
+
+pub bytes-low : (l : List ℤ) (i : ℕ) → getD (bytesOf l) (2 * i + 1) 0 ≡ bits16 (getD l i (pos 0)) % 256
+unfolding bytesOf bytes16 bits16
+bytes-low [] i = refl
+bytes-low (z ∷ l) zero = refl
+bytes-low (z ∷ l) (suc i) =
+    ap (λ (k : ℕ). getD (bytesOf (z ∷ l)) k 0) {x = 2 * suc i + 1} {y = suc (suc (2 * i + 1))} (omega arith) ∙ bytes-low l i
+
+-- ---- lengths
+
+pub bytes-length : (l : List ℤ) → length (bytesOf l) ≡ 2 * length l
+unfolding bytesOf bytes16
+bytes-length [] = refl
+bytes-length (z ∷ l) = omega (arith, bytes-length l)
+
+pub numbers-length : (l : List ℕ) → length (numbersFrom l) ≡ length l / 2
+unfolding numbersFrom
+numbers-length [] = refl
+numbers-length (high ∷ []) = refl
+numbers-length (high ∷ low ∷ l) = omega (arith, numbers-length l)
+
+pub numbers-length-even : (l : List ℕ) → length l % 2 ≡ 0 → 2 * length (numbersFrom l) ≡ length l
+numbers-length-even l e = omega (arith, numbers-length l)
+
+-- ---- both ways
+
+-- each number of a list fits in 16 bits
+abbrev pub Fitting : List ℤ → Type 0
+Fitting l = (k : ℕ) → Fits16 (getD l k (pos 0))
+
+pub numbers-of-bytes : (l : List ℤ) → Fitting l → numbersFrom (bytesOf l) ≡ l
+unfolding numbersFrom bytesOf bytes16
+numbers-of-bytes [] f = refl
+numbers-of-bytes (z ∷ l) f =
+    ap₂ (λ (x : ℤ) (r : List ℤ). x ∷ r) (ap signed16 (number-bytes (bits16 z)) ∙ signed-bits (f 0)) (numbers-of-bytes l (λ k. f (suc k)))
+
+pub bytes-of-numbers : (l : List ℕ) → Bytes l → length l % 2 ≡ 0 → bytesOf (numbersFrom l) ≡ l
+unfolding numbersFrom bytesOf
+bytes-of-numbers [] b e = refl
+bytes-of-numbers (high ∷ []) b e = absurd (omega arith)
+bytes-of-numbers (high ∷ low ∷ l) b e =
+    ap₂ _++_ (ap bytes16 (bits-signed (number-lt (b 0) (b 1))) ∙ bytes-number high low (b 1)) (bytes-of-numbers l (λ k. b (suc (suc k))) (omega arith))
+
+-- ---- arrays in their sets have small numbers, which fit
+
+pub fitting-small : (l : List ℤ) → Small l → Fitting l
+fitting-small l h k = fits-small (getD l k (pos 0)) (h k)
+
+pub set-small : (p : ParameterSet) → Accepted p → (a : ArraySet) (x : List ℤ) → length x ≡ 2 * p .N → T (inSet p a x) → Small x
+set-small p ok F x e t = units-small (p .N) (p .t) x e t
+set-small p ok G x e t = units-small (p .N) (p .s) x e (sum-zero-units (p .N) (p .s) (coefficient x) t)
+set-small p ok ReducedModulo2 x e t = reduced2-small (p .N) x e t
+set-small p ok ReducedModuloQ x e t = reducedQ-small (p .N) (p .q) x (ok .q-small) (modulus-nonzero p ok) e t
+
+small-joined : (n : ℕ) (l : List ℤ) → Small (take n l) → Small (drop n l) → Small l
+small-joined n l h r k = go (decLt k n)
+  where
+    go : Dec (k < n) → natAbs (getD l k (pos 0)) ≤ 2 ^ 13
+    go (yes p) = rw getD-take at (h k)
+    go (no p) =
+        let e : n + (k - n) ≡ k = omega arith in
+        rw (getD-drop, e) at (r (k - n))
+
+pub arrays-small : (p : ParameterSet) → Accepted p → (sets : List ArraySet) (l : List ℤ) → length l ≡ 2 * p .N * length sets → outcome (setChecks p sets l) (tt {0}) ≡ done (tt {0}) → Small l
+unfolding setChecks
+arrays-small p ok [] [] e c = λ k. lit≤ tt
+arrays-small p ok [] (z ∷ l) e c = absurd (omega arith)
+arrays-small p ok (a ∷ sets) l e c =
+    let q = done-holds (notInSet a) (inSet p a (take (2 * p .N) l)) _ _ _ c in
+    small-joined (2 * p .N) l
+    (set-small p ok a (take (2 * p .N) l) (length-take (2 * p .N) l ∙ omega arith) (q .0))
+    (arrays-small p ok sets (drop (2 * p .N) l) (length-drop (2 * p .N) l ∙ omega arith) (q .1))

@@ -1,0 +1,181 @@
+-- Reading and writing undo each other.
+use mathlib.Core.Path.{_≡_, refl, sym, _∙_, ap, ap₂, subst}
+use mathlib.Core.Bool.{Bool, false, not, _&&_}
+use mathlib.Core.List.{List, [], _∷_, _++_}
+use Prim.Native.Nat.{ℕ, zero, suc, _+_, _*_, _/_, _%_, _≤_, _<_}
+use native.Mathlib.Omega.{arith}
+use borrow.Author.Tests.{le-ltb}
+use lib.Dec.{T, eqb, eqb-refl, lit<}
+use lib.IntN.{ℤ}
+use lib.ListN.{length, getD, take, drop, length-drop, take-append-drop}
+use lib.Seq.{getD-drop}
+use mir.Facts.{yes-and}
+use Rattle.refusals.specs.Outcomes.{done, outcome}
+use Rattle.refusals.proofs.Checks.{passed, holds-passed, none-left, done-passed, done-parts, done-all, passed-all, done-with}
+use Rattle.parameters.specs.Sets.{ParameterSet, set, outside, parameterChecks}
+use Rattle.parameters.proofs.Ranges.{in-range}
+use Rattle.packing.specs.Messages.{listed}
+use Rattle.packing.specs.Promises.{Bytes}
+use Rattle.files.specs.Files.{bytes16, number16, bits16, signed16, unsignedAt, signedAt, headOf, numbersFrom, headBytes, bytesOf, fileOf}
+use Rattle.files.specs.Calls.{marked, versionOne, headChecks, readingHead, contentChecks, readingChecks, reading, writingChecks, writing}
+use Rattle.files.specs.Promises.{Reading-undoes-writing, Writing-undoes-reading, Written-bytes}
+use Rattle.files.proofs.Numbers.{Fits16, signed-bits, bits-signed, bits-lt, number-bytes, bytes-number, number-lt}
+use Rattle.files.proofs.Lists.{Fitting, fitting-small, bytes-length, numbers-length, numbers-of-bytes, bytes-of-numbers}
+use Rattle.files.proofs.Passed.{Head, head-passed, PartsFit, parts-fit, contents-passed, contents-small, file-length}
+
+-- ---- a file that is written
+
+module _ (kind : ℕ) (p : ParameterSet) (l : List ℤ) where
+  pub written-head : PartsFit p → headOf (fileOf kind p l) ≡ p
+  unfolding headOf unsignedAt signedAt fileOf headBytes bytes16
+  written-head f =
+      λ i.
+      set (number-bytes (p .N) i) (signed (f .c-fits) i) (signed (f .d-fits) i) (number-bytes (p .s) i) (number-bytes (p .t) i)
+    where
+      signed : {z : ℤ} → Fits16 z → signed16 (number16 (bits16 z / 256) (bits16 z % 256)) ≡ z
+      signed {z} g = ap signed16 (number-bytes (bits16 z)) ∙ signed-bits g
+
+  pub written-numbers : Fitting l → numbersFrom (drop 16 (fileOf kind p l)) ≡ l
+  unfolding fileOf headBytes bytes16
+  written-numbers f = numbers-of-bytes l f
+
+  pub written-length : length (fileOf kind p l) ≡ 16 + 2 * length l
+  unfolding fileOf headBytes bytes16
+  written-length = omega (arith, bytes-length l)
+
+  written-head-passed : outside 1 3 kind ≡ false → outcome (headChecks kind (fileOf kind p l)) (tt {0}) ≡ done (tt {0})
+  unfolding headChecks marked versionOne fileOf headBytes
+  written-head-passed k =
+      passed 16 _ _ (le-ltb (length (fileOf kind p l)) 16 (omega (arith, written-length)))
+      ∙ holds-passed 17 (marked (fileOf kind p l)) _ _ tt
+      ∙ holds-passed 18 (versionOne (fileOf kind p l)) _ _ tt
+      ∙ holds-passed 19 (not (outside 1 3 kind) && eqb kind kind) _ _ (yes-and (not (outside 1 3 kind)) (eqb kind kind) (subst (λ (t : Bool). T (not t)) (sym k) tt) (eqb-refl kind))
+      ∙ none-left _
+
+  -- what writing has passed
+  record Written : Type 0 where
+    known : outside 1 3 kind ≡ false
+    parameters : outcome (parameterChecks p) (tt {0}) ≡ done (tt {0})
+    contents : outcome (contentChecks kind p l (length l) (length (fileOf kind p l))) (tt {0}) ≡ done (tt {0})
+    parts : PartsFit p
+    fitting : Fitting l
+
+  writing-passed : (room : ℕ) → outcome (writingChecks kind p l room) (tt {0}) ≡ done (tt {0}) → Written
+  unfolding writingChecks
+  writing-passed room e =
+      let k19 = done-passed 19 (outside 1 3 kind) _ _ _ e in
+      let k = done-all (parameterChecks p) (contentChecks kind p l (length l) room) _ _ (k19 .1) in
+      let c = contents-passed kind p l (length l) room (k .1) in
+      let r : room ≡ length (fileOf kind p l) = omega (arith, c .file-is, c .numbers-are, file-length kind (p .N), written-length) in
+      record {
+        known = k19 .0;
+        parameters = k .0;
+        contents = rw r at (k .1);
+        parts = parts-fit p (k .0);
+        fitting = fitting-small l (contents-small kind p l (k .0) (c .numbers-are) (c .sets));
+      }
+
+  written-head-reads : Written → readingHead kind (fileOf kind p l) ≡ done p
+  unfolding readingHead
+  written-head-reads w =
+      passed-all (headChecks kind (fileOf kind p l)) _ _ (written-head-passed (w .known))
+      ∙ rw (written-head (w .parts)) (done-with (parameterChecks p) p (w .parameters))
+
+  written-reads : Written → reading kind (fileOf kind p l) (length l) ≡ done l
+  unfolding reading readingChecks
+  written-reads w =
+      passed-all (headChecks kind (fileOf kind p l)) _ _ (written-head-passed (w .known))
+      ∙ rw (written-head (w .parts), written-numbers (w .fitting))
+      (passed-all (parameterChecks p) _ l (w .parameters) ∙ done-with _ l (w .contents))
+
+pub reading-undoes-writing : Reading-undoes-writing
+unfolding writing
+reading-undoes-writing kind p l room file e =
+    let d = done-parts (writingChecks kind p l room) (fileOf kind p l) file e in
+    let w = writing-passed kind p l room (d .0) in
+    subst (λ (f : List ℕ). (readingHead kind f ≡ done p) × (reading kind f (length l) ≡ done l)) (d .1)
+    (written-head-reads kind p l w, written-reads kind p l w)
+
+-- ---- what is written are bytes
+
+-- each number of a list is a byte, as a pair for each cons: `omega` proves it of a list that is written out
+abbrev Below : List ℕ → Type 0
+Below [] = Unit {0}
+Below (n ∷ l) = (n < 256) × Below l
+
+bytes-append : (l m : List ℕ) → Below l → Bytes m → Bytes (l ++ m)
+bytes-append [] m h b i = b i
+bytes-append (n ∷ l) m h b zero = h .0
+bytes-append (n ∷ l) m h b (suc i) = bytes-append l m (h .1) b i
+
+bytes-of-list : (l : List ℤ) → Fitting l → Bytes (bytesOf l)
+unfolding bytesOf bytes16
+bytes-of-list [] f = λ i. lit< tt
+bytes-of-list (z ∷ l) f =
+    bytes-append (bytes16 (bits16 z)) (bytesOf l) (omega (arith, bits-lt (f 0))) (bytes-of-list l (λ k. f (suc k)))
+
+bytes-of-file : (kind : ℕ) (p : ParameterSet) (l : List ℤ) → kind ≤ 3 → PartsFit p → Fitting l → Bytes (fileOf kind p l)
+unfolding fileOf headBytes bytes16
+bytes-of-file kind p l k f g =
+    bytes-append (headBytes kind p) (bytesOf l) (omega (arith, bits-lt (f .c-fits), bits-lt (f .d-fits))) (bytes-of-list l g)
+
+pub written-bytes : Written-bytes
+unfolding writing
+written-bytes kind p l room file e =
+    let d = done-parts (writingChecks kind p l room) (fileOf kind p l) file e in
+    let w = writing-passed kind p l room (d .0) in
+    subst Bytes (d .1) (bytes-of-file kind p l (in-range 1 3 kind (w .known)) (w .parts) (w .fitting))
+
+-- ---- a file that is read
+
+-- the first n bytes, written out
+firsts : (n : ℕ) (l : List ℕ) → n ≤ length l → take n l ≡ listed n (λ i. getD l i 0)
+unfolding listed
+firsts zero l h = refl
+firsts (suc n) [] h = absurd (omega arith)
+firsts (suc n) (x ∷ l) h = ap (λ (r : List ℕ). x ∷ r) (firsts n l (omega arith))
+
+module _ (file : List ℕ) (bytes : Bytes file) where
+  unsigned-bytes : (k : ℕ) → bytes16 (unsignedAt file k) ≡ getD file k 0 ∷ getD file (suc k) 0 ∷ []
+  unfolding unsignedAt
+  unsigned-bytes k = bytes-number (getD file k 0) (getD file (suc k) 0) (bytes (suc k))
+
+  signed-bytes : (k : ℕ) → bytes16 (bits16 (signedAt file k)) ≡ getD file k 0 ∷ getD file (suc k) 0 ∷ []
+  unfolding signedAt unsignedAt
+  signed-bytes k = ap bytes16 (bits-signed (number-lt (bytes k) (bytes (suc k)))) ∙ unsigned-bytes k
+
+  read-head : (kind : ℕ) → Head kind file → headBytes kind (headOf file) ≡ take 16 file
+  unfolding headOf headBytes listed
+  read-head kind h =
+      (λ i.
+      sym (h .mark .0) i
+      ∷ sym (h .mark .1) i
+      ∷ sym (h .mark .2) i
+      ∷ sym (h .version .0) i
+      ∷ sym (h .version .1) i
+      ∷ sym (h .kind-is) i
+      ∷ unsigned-bytes 6 i ++ (signed-bytes 8 i ++ (signed-bytes 10 i ++ (unsigned-bytes 12 i ++ unsigned-bytes 14 i))))
+      ∙ sym (firsts 16 file (h .long))
+
+  read-rest : length file % 2 ≡ 0 → bytesOf (numbersFrom (drop 16 file)) ≡ drop 16 file
+  read-rest e =
+      bytes-of-numbers (drop 16 file) (λ k. rw getD-drop (bytes (16 + k))) (omega (arith, length-drop 16 file))
+
+  read-file : (kind : ℕ) → Head kind file → length file % 2 ≡ 0 → fileOf kind (headOf file) (numbersFrom (drop 16 file)) ≡ file
+  unfolding fileOf
+  read-file kind h e = ap₂ _++_ (read-head kind h) (read-rest e) ∙ take-append-drop 16 file
+
+pub writing-undoes-reading : Writing-undoes-reading
+unfolding reading readingChecks writing writingChecks
+writing-undoes-reading kind file room l bytes e =
+    let d = done-parts (readingChecks kind file room) (numbersFrom (drop 16 file)) l e in
+    let k = done-all (headChecks kind file) _ _ _ (d .0) in
+    let h = head-passed kind file (k .0) in
+    let m = done-all (parameterChecks (headOf file)) _ _ _ (k .1) in
+    let c = contents-passed kind (headOf file) (numbersFrom (drop 16 file)) room (length file) (m .1) in
+    let r : room ≡ length (numbersFrom (drop 16 file)) = omega (arith, numbers-length (drop 16 file), length-drop 16 file, c .file-is, c .numbers-are, file-length kind (headOf file .N)) in
+    subst (λ (x : List ℤ). writing kind (headOf file) x (length file) ≡ done file) (d .1)
+    (passed 19 _ _ (h .known)
+    ∙ passed-all (parameterChecks (headOf file)) _ _ (m .0)
+    ∙ done-with (contentChecks kind (headOf file) (numbersFrom (drop 16 file)) (length (numbersFrom (drop 16 file))) (length file)) _ (rw r at (m .1))
+    ∙ ap done (read-file file bytes kind h (omega (arith, c .file-is, file-length kind (headOf file .N)))))
