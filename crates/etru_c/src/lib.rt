@@ -5,10 +5,12 @@ ghost use lib.ListN.{length};
 ghost use Rattle.refusals.specs.Outcomes.{number, written};
 ghost use Rattle.eisenstein.specs.Values.{value};
 ghost use Rattle.eisenstein.specs.Calls.{reduceQ, reduce2, answered};
-ghost use Rattle.parameters.specs.Sets.{set, parameters};
+ghost use Rattle.parameters.specs.Sets.{set, parameters, made};
 ghost use Rattle.packing.specs.Calls.{packing, unpacking};
 ghost use Rattle.etru.specs.Calls.{convolving, keyCheck, sealing, opening};
+ghost use Rattle.files.specs.Calls.{readingHead, reading, writing};
 use eisenstein::Reduced;
+use parameters::Made;
 use parameters::Parameters;
 
 // Hands an answer on: a remainder to the outputs, or a refusal's number alone.
@@ -142,4 +144,75 @@ pub extern "C" fn etru_unpack(n: u32, m: &[i32], message: &mut [u8]) -> u32
     ensures { λ r. ⌜ (r ≡ number (unpacking n (now (m .entry)) (length (now (message .entry))))) × (now (message .exit) ≡ written (unpacking n (now (m .entry)) (length (now (message .entry)))) (now (message .entry))) ⌝ }
 {
     etru::unpack(n, m, message).number()
+}
+
+// Hands parameters on to the outputs, or a refusal's number alone.
+fn give_parameters(
+    answer: Made,
+    n: &mut u32,
+    c: &mut i32,
+    d: &mut i32,
+    s: &mut u32,
+    t: &mut u32,
+) -> u32
+    ensures { λ r. ⌜ (r ≡ number (made answer)) × (set (now (n .exit)) (now (c .exit)) (now (d .exit)) (now (s .exit)) (now (t .exit)) ≡ written (made answer) (set (now (n .entry)) (now (c .entry)) (now (d .entry)) (now (s .entry)) (now (t .entry)))) ⌝ }
+{
+    match answer {
+        Made::Accepted(p) => {
+            let pn = p.n;
+            let pc = p.c;
+            let pd = p.d;
+            let ps = p.s;
+            let pt = p.t;
+            *n = pn;
+            *c = pc;
+            *d = pd;
+            *s = ps;
+            *t = pt;
+            0
+        }
+        Made::Refused(refusal) => refusal.number(),
+    }
+}
+
+// The parameters of a file of the wanted kind, from its head alone, to n, c, d, s and t.
+#[no_mangle]
+pub extern "C" fn etru_read_head(
+    kind: u32,
+    file: &[u8],
+    n: &mut u32,
+    c: &mut i32,
+    d: &mut i32,
+    s: &mut u32,
+    t: &mut u32,
+) -> u32
+    ensures { λ r. ⌜ (r ≡ number (readingHead kind (now (file .entry)))) × (set (now (n .exit)) (now (c .exit)) (now (d .exit)) (now (s .exit)) (now (t .exit)) ≡ written (readingHead kind (now (file .entry))) (set (now (n .entry)) (now (c .entry)) (now (d .entry)) (now (s .entry)) (now (t .entry)))) ⌝ }
+{
+    give_parameters(files::read_head(kind, file), n, c, d, s, t)
+}
+
+// The arrays of a file of the wanted kind, one after another in stored order, to numbers.
+#[no_mangle]
+pub extern "C" fn etru_read(kind: u32, file: &[u8], numbers: &mut [i32]) -> u32
+    ensures { λ r. ⌜ (r ≡ number (reading kind (now (file .entry)) (length (now (numbers .entry))))) × (now (numbers .exit) ≡ written (reading kind (now (file .entry)) (length (now (numbers .entry)))) (now (numbers .entry))) ⌝ }
+{
+    files::read(kind, file, numbers).number()
+}
+
+// A file of this kind, to file. The numbers are its arrays, one after another in stored order.
+#[no_mangle]
+pub extern "C" fn etru_write(
+    kind: u32,
+    n: u32,
+    c: i32,
+    d: i32,
+    s: u32,
+    t: u32,
+    numbers: &[i32],
+    file: &mut [u8],
+) -> u32
+    ensures { λ r. ⌜ (r ≡ number (writing kind (set n c d s t) (now (numbers .entry)) (length (now (file .entry))))) × (now (file .exit) ≡ written (writing kind (set n c d s t) (now (numbers .entry)) (length (now (file .entry)))) (now (file .entry))) ⌝ }
+{
+    let p = Parameters { n, c, d, s, t };
+    files::write(kind, p, numbers, file).number()
 }

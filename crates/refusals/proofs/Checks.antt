@@ -8,7 +8,7 @@ use native.Mathlib.Omega.{arith}
 use borrow.Author.Tests.{not-false}
 use lib.Dec.{T, ltb}
 use mir.Facts.{and-yes, ltb-yes}
-use Rattle.refusals.specs.Outcomes.{Check, _if_, Outcome, done, refused, unless, outcome, number}
+use Rattle.refusals.specs.Outcomes.{Check, _if_, Outcome, done, refused, unless, outcome, number, written}
 
 pub refused-by : {A : Type 0} (n : ℕ) (cs : List Check) (a : A) {t : Bool} → t ≡ true → outcome (n if t ∷ cs) a ≡ refused n
 unfolding outcome
@@ -148,6 +148,12 @@ done-by-number (c ∷ cs) a p e = go (c .applies) (done-by-number cs a (and-yes 
 pub refused-by-number : {A : Type 0} (o : Outcome A) (n : ℕ) → 0 < n → number o ≡ n → o ≡ refused n
 refused-by-number (done a) n l e = absurd (omega arith)
 refused-by-number (refused m) n l e = ap refused e
+
+-- what was written, where the number is 0
+pub done-as-written : {A : Type 0} (cs : List Check) (a old new : A) → T (positive cs) → number (outcome cs a) ≡ 0 → new ≡ written (outcome cs a) old → outcome cs a ≡ done new
+done-as-written {A} cs a old new t e w =
+    let d = done-by-number cs a t e in
+    d ∙ ap done (sym (w ∙ ap (λ (o : Outcome A). written o old) d))
 
 pub refused-plain : {A : Type 0} (cs : List Check) (a : A) (n : ℕ) → 0 < n → outcome cs a ≡ refused n → outcome cs (tt {0}) ≡ refused n
 refused-plain cs a n l e = refused-by-number (outcome cs (tt {0})) n l (same-number cs (tt {0}) a ∙ ap number e)

@@ -1,4 +1,4 @@
--- No refusal has the number 0.
+-- No refusal has the number 0, and each has at most two digits.
 use Prim.Native.Nat.{_<_}
 use lib.Dec.{lit<}
 use Rattle.refusals.specs.Numbers.{numberOf}
@@ -28,3 +28,27 @@ number-positive KindNotWanted = lit< tt
 number-positive ParametersDiffer = lit< tt
 number-positive ModulusZero = lit< tt
 number-positive ValueOutOfRange = lit< tt
+
+pub two-digits : (r : Refusal) → numberOf r < 100
+two-digits CoefficientCountOutOfRange = lit< tt
+two-digits ModulusPartOutOfRange = lit< tt
+two-digits ModulusPartsBothEven = lit< tt
+two-digits SOutOfRange = lit< tt
+two-digits TOutOfRange = lit< tt
+two-digits BoundNotBelowNorm = lit< tt
+two-digits WrongLength = lit< tt
+two-digits FNotInItsSet = lit< tt
+two-digits GNotInItsSet = lit< tt
+two-digits PhiNotInItsSet = lit< tt
+two-digits NotReducedModulo2 = lit< tt
+two-digits NotReducedModuloQ = lit< tt
+two-digits NotInverseModulo2 = lit< tt
+two-digits NotInverseModuloQ = lit< tt
+two-digits SpareBitSet = lit< tt
+two-digits HeadTooShort = lit< tt
+two-digits MarkNotEiz = lit< tt
+two-digits VersionNotOne = lit< tt
+two-digits KindNotWanted = lit< tt
+two-digits ParametersDiffer = lit< tt
+two-digits ModulusZero = lit< tt
+two-digits ValueOutOfRange = lit< tt

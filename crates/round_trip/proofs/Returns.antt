@@ -2,10 +2,9 @@
 use mathlib.Core.Path.{_≡_, sym, _∙_, ap}
 use mathlib.Core.List.{List, _++_}
 use Prim.Native.Nat.{ℕ, _*_}
-use lib.Dec.{T}
 use lib.IntN.{ℤ}
-use Rattle.refusals.specs.Outcomes.{Check, Outcome, done, outcome, number, written}
-use Rattle.refusals.proofs.Checks.{positive, done-by-number}
+use Rattle.refusals.specs.Outcomes.{Outcome, done, number, written}
+use Rattle.refusals.proofs.Checks.{done-as-written}
 use Rattle.parameters.specs.Sets.{ParameterSet, parameterChecks}
 use Rattle.polynomials.specs.Polynomials.{coefficient, array}
 use Rattle.packing.specs.Messages.{messageBytes, packed}
@@ -21,12 +20,6 @@ round-trip-returns p f F2 Fq g h φ message key ephemeral msg =
     ap (λ (x : Outcome (List ℤ)). next (next x (λ h. sealing p h φ message (2 * p .N))) (λ e. opening p f F2 e (messageBytes (p .N)))) (key .accepted)
     ∙ ap (λ (x : Outcome (List ℤ)). next x (λ e. opening p f F2 e (messageBytes (p .N)))) (o .seals)
     ∙ o .opens
-
--- what was written, where the number is 0
-done-as-written : {A : Type 0} (cs : List Check) (a old new : A) → T (positive cs) → number (outcome cs a) ≡ 0 → new ≡ written (outcome cs a) old → outcome cs a ≡ done new
-done-as-written {A} cs a old new t e w =
-    let d = done-by-number cs a t e in
-    d ∙ ap done (sym (w ∙ ap (λ (o : Outcome A). written o old) d))
 
 pub key-done : (p : ParameterSet) (f F2 Fq g : List ℤ) (room : ℕ) (old new : List ℤ) → number (keyCheck p f F2 Fq g room) ≡ 0 → new ≡ written (keyCheck p f F2 Fq g room) old → keyCheck p f F2 Fq g room ≡ done new
 unfolding keyCheck keyChecks parameterChecks

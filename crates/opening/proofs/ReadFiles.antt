@@ -1,0 +1,90 @@
+-- A file that the program reads, by what reading its head and reading all of it answer.
+use mathlib.Core.Path.{_≡_, _∙_, ap}
+use mathlib.Core.List.{List, [], _∷_, _++_, append-assoc}
+use Prim.Native.Nat.{ℕ, _≤_}
+use lib.Dec.{T}
+use lib.IntN.{ℤ}
+use lib.ListN.{length}
+use Rattle.refusals.specs.Outcomes.{Outcome, done, refused, outcome, number, written}
+use Rattle.refusals.specs.Numbers.{numberOf, answered}
+use Rattle.refusals.specs.declared.Answer.{Answer}
+use Rattle.refusals.specs.declared.Answer.the-variants.{Done, Refused}
+use Rattle.refusals.specs.declared.Refusal.{Refusal}
+use Rattle.refusals.proofs.Checks.{positive, done-by-number, refused-by-number, refused-plain, refused-first, done-all, done-parts}
+use Rattle.refusals.proofs.Numbers.{number-positive}
+use Rattle.parameters.specs.Sets.{ParameterSet, parameterChecks}
+use Rattle.etru.specs.declared.ArraySet.{ArraySet}
+use Rattle.etru.specs.declared.ArraySet.the-variants.{F, G, ReducedModulo2, ReducedModuloQ}
+use Rattle.etru.proofs.AcceptedParameters.{accepted-parameters}
+use Rattle.files.specs.Files.{arraysOf, numberCount, headOf}
+use Rattle.files.specs.Calls.{headChecks, readingHead, setChecks, contentChecks, readingChecks, reading}
+use Rattle.files.proofs.Passed.{contents-passed}
+use Rattle.opening.specs.Program.{fileChecks, numbersOf}
+
+-- ---- no check of a file has the number 0
+
+positive-sets : (p : ParameterSet) (sets : List ArraySet) (l : List ℤ) → T (positive (setChecks p sets l))
+unfolding setChecks
+positive-sets p [] l = tt
+positive-sets p (F ∷ rest) l = positive-sets p rest _
+positive-sets p (G ∷ rest) l = positive-sets p rest _
+positive-sets p (ReducedModulo2 ∷ rest) l = positive-sets p rest _
+positive-sets p (ReducedModuloQ ∷ rest) l = positive-sets p rest _
+
+positive-file : (kind : ℕ) (file : List ℕ) → T (positive (fileChecks kind file))
+unfolding fileChecks readingChecks headChecks parameterChecks contentChecks
+positive-file kind file = positive-sets (headOf file) (arraysOf kind) (numbersOf file)
+
+-- ---- a refused head
+
+pub head-refused : (kind : ℕ) (file : List ℕ) (r : Refusal) → readingHead kind file ≡ refused (numberOf r) → outcome (fileChecks kind file) (tt {0}) ≡ refused (numberOf r)
+unfolding readingHead fileChecks readingChecks
+head-refused kind file r e =
+    rw (← append-assoc) (refused-first (headChecks kind file ++ parameterChecks (headOf file)) _ tt (numberOf r) (refused-plain _ (headOf file) (numberOf r) (number-positive r) e))
+
+-- ---- a head that is read, and then the file, with room for its numbers
+
+pub record Read (kind : ℕ) (p : ParameterSet) (file : List ℕ) (numbers : List ℤ) : Type 0 where
+  pub head : headOf file ≡ p
+  pub checks : outcome (fileChecks kind file) (tt {0}) ≡ done (tt {0})
+  pub numbers-are : numbers ≡ numbersOf file
+  pub sets : outcome (setChecks p (arraysOf kind) numbers) (tt {0}) ≡ done (tt {0})
+
+module _ (kind : ℕ) (file : List ℕ) (p : ParameterSet) (head : readingHead kind file ≡ done p) where
+  pub head-is : headOf file ≡ p
+  unfolding readingHead
+  head-is = done-parts _ _ _ head .1
+
+  pub accepted : outcome (parameterChecks p) (tt {0}) ≡ done (tt {0})
+  unfolding readingHead
+  accepted = rw head-is at (done-parts _ _ _ (done-all (headChecks kind file) _ _ _ head .1) .0)
+
+  pub N-small : p .N ≤ 1024
+  N-small = accepted-parameters p accepted .N-small
+
+  -- what `read` answered
+  module _ (old : List ℤ) (room : length old ≡ numberCount kind (p .N)) (answer : Answer) (says : number (answered answer) ≡ number (reading kind file (length old))) where
+    reading-is : reading kind file (length old) ≡ outcome (fileChecks kind file) (numbersOf file)
+    unfolding reading fileChecks
+    reading-is = rw (room, head-is)
+
+    number-is : (a : Answer) → answer ≡ a → number (outcome (fileChecks kind file) (numbersOf file)) ≡ number (answered a)
+    number-is a e = cc reading-is
+
+    pub file-read : (new : List ℤ) → answer ≡ Done → new ≡ written (reading kind file (length old)) old → Read kind p file new
+    unfolding fileChecks readingChecks
+    file-read new e w =
+        let d = done-by-number (fileChecks kind file) (numbersOf file) (positive-file kind file) (number-is Done e) in
+        let checks = done-parts (fileChecks kind file) _ _ d .0 in
+        let contents = done-all (parameterChecks (headOf file)) _ _ _ (done-all (headChecks kind file) _ _ _ checks .1) .1 in
+        let n : new ≡ numbersOf file = w ∙ ap (λ (o : Outcome (List ℤ)). written o old) (reading-is ∙ d) in
+        record {
+          head = head-is;
+          checks = checks;
+          numbers-are = n;
+          sets = rw (← head-is, n) (contents-passed kind (headOf file) (numbersOf file) _ _ contents .sets);
+        }
+
+    pub file-refused : (r : Refusal) → answer ≡ Refused r → outcome (fileChecks kind file) (tt {0}) ≡ refused (numberOf r)
+    file-refused r e =
+        refused-plain (fileChecks kind file) (numbersOf file) (numberOf r) (number-positive r) (refused-by-number _ (numberOf r) (number-positive r) (number-is (Refused r) e))

@@ -1,0 +1,85 @@
+-- The key of a private file that is read: its arrays are in their sets, so the key check refuses by 13 and 14 alone, and opening refuses nothing.
+use mathlib.Core.Path.{_≡_, refl, sym, _∙_, ap, ap₂}
+use mathlib.Core.Bool.{_&&_}
+use mathlib.Core.List.{List, [], _∷_}
+use Prim.Native.Nat.{ℕ, _+_, _*_, _≤_}
+use native.Mathlib.Omega.{arith}
+use lib.Dec.{T, eqb}
+use lib.IntN.{ℤ}
+use lib.ListN.{length, take, drop, length-drop}
+use lib.Seq.{length-take-le, drop-drop}
+use mir.Facts.{yes-and, yes-eqb}
+use Rattle.integers.proofs.Tests.{equal-4}
+use Rattle.refusals.specs.Outcomes.{Check, done, outcome}
+use Rattle.refusals.proofs.Checks.{passed-all, holds-passed, none-left, done-holds}
+use Rattle.parameters.specs.Sets.{ParameterSet, parameterChecks}
+use Rattle.polynomials.specs.Polynomials.{coefficient, array, unitsOnly, reduced2, reducedQ}
+use Rattle.packing.specs.Messages.{messageBytes}
+use Rattle.etru.specs.declared.ArraySet.the-variants.{F, G, ReducedModulo2, ReducedModuloQ}
+use Rattle.etru.specs.Scheme.{publicKey}
+use Rattle.etru.specs.Calls.{full, keyChecks, keyCheck, openingChecks, opening}
+use Rattle.files.specs.Files.{arraysOf}
+use Rattle.files.specs.Calls.{setChecks}
+use Rattle.files.proofs.SetChecks.{own}
+use Rattle.opening.specs.Program.{arrayOf, inverseChecks, messageOf}
+
+-- a part of the numbers that is array k
+pub part-is : (p : ParameterSet) (k : ℕ) (l : List ℤ) (n from : ℕ) → n ≡ 2 * p .N → from ≡ 2 * p .N * k → take n (drop from l) ≡ arrayOf p k l
+unfolding arrayOf
+part-is p k l n from e f = ap₂ (λ (x y : ℕ). take x (drop y l)) e f
+
+module _ (p : ParameterSet) (numbers : List ℤ) (accepted : outcome (parameterChecks p) (tt {0}) ≡ done (tt {0})) (long : length numbers ≡ 2 * p .N * 4) (sets : outcome (setChecks p (arraysOf 2) numbers) (tt {0}) ≡ done (tt {0})) where
+  abbrev f : List ℤ
+  f = arrayOf p 0 numbers
+
+  abbrev F2 : List ℤ
+  F2 = arrayOf p 1 numbers
+
+  abbrev Fq : List ℤ
+  Fq = arrayOf p 2 numbers
+
+  abbrev g : List ℤ
+  g = arrayOf p 3 numbers
+
+  array-long : (k : ℕ) → 2 * p .N * k + 2 * p .N ≤ 2 * p .N * 4 → length (arrayOf p k numbers) ≡ 2 * p .N
+  unfolding arrayOf
+  array-long k h = length-take-le (2 * p .N) (drop (2 * p .N * k) numbers) (omega (arith, length-drop (2 * p .N * k) numbers))
+
+  -- the checks of the four arrays
+  abbrev four : List Check
+  four = own p F f ∷ own p ReducedModulo2 F2 ∷ own p ReducedModuloQ Fq ∷ own p G g ∷ []
+
+  four-are : setChecks p (arraysOf 2) numbers ≡ four
+  unfolding setChecks arraysOf
+  four-are =
+      let w = 2 * p .N in
+      let e0 = part-is p 0 numbers w 0 refl (omega arith) in
+      let e1 = part-is p 1 numbers w w refl (omega arith) in
+      let e2 = ap (take w) (drop-drop w w numbers) ∙ part-is p 2 numbers w (w + w) refl (omega arith) in
+      let e3 = ap (λ (x : List ℤ). take w (drop w x)) (drop-drop w w numbers) ∙ ap (take w) (drop-drop w (w + w) numbers) ∙ part-is p 3 numbers w (w + w + w) refl (omega arith) in
+      λ i. own p F (e0 i) ∷ own p ReducedModulo2 (e1 i) ∷ own p ReducedModuloQ (e2 i) ∷ own p G (e3 i) ∷ []
+
+  four-passed : outcome four (tt {0}) ≡ done (tt {0})
+  four-passed = ap (λ (cs : List Check). outcome cs (tt {0})) (sym four-are) ∙ sets
+
+  pub key-checked : (room : ℕ) → room ≡ 2 * p .N → keyCheck p f F2 Fq g room ≡ outcome (inverseChecks p numbers) (array (p .N) (publicKey p (coefficient Fq) (coefficient g)))
+  unfolding keyCheck keyChecks inverseChecks
+  key-checked room e =
+      let h = array (p .N) (publicKey p (coefficient Fq) (coefficient g)) in
+      passed-all (parameterChecks p) (keyChecks p f F2 Fq g room) h accepted
+      ∙ holds-passed 7 (full (p .N) (length f) && (full (p .N) (length F2) && (full (p .N) (length Fq) && (full (p .N) (length g) && full (p .N) room)))) _ h
+      (yes-and (full (p .N) (length f)) _ (yes-eqb (array-long 0 (omega arith))) (equal-4 (array-long 1 (omega arith)) (array-long 2 (omega arith)) (array-long 3 (omega arith)) e))
+      ∙ passed-all four (inverseChecks p numbers) h four-passed
+
+  pub opens : (e : List ℤ) → length e ≡ 2 * p .N → T (reducedQ (p .N) (p .q) (coefficient e)) → opening p f F2 e (messageBytes (p .N)) ≡ done (messageOf p numbers e)
+  unfolding opening openingChecks messageOf
+  opens e n r =
+      let m = messageOf p numbers e in
+      let k8 = done-holds 8 (unitsOnly (p .N) (p .t) (coefficient f)) _ _ _ four-passed in
+      let k11 = done-holds 11 (reduced2 (p .N) (coefficient F2)) _ _ _ (k8 .1) in
+      passed-all (parameterChecks p) (openingChecks (p .N) (p .q) (p .t) f F2 e (messageBytes (p .N))) m accepted
+      ∙ holds-passed 7 (eqb (messageBytes (p .N)) (messageBytes (p .N)) && (full (p .N) (length f) && (full (p .N) (length F2) && full (p .N) (length e)))) _ m (equal-4 {a = messageBytes (p .N)} refl (array-long 0 (omega arith)) (array-long 1 (omega arith)) n)
+      ∙ holds-passed 8 (unitsOnly (p .N) (p .t) (coefficient f)) _ m (k8 .0)
+      ∙ holds-passed 11 (reduced2 (p .N) (coefficient F2)) _ m (k11 .0)
+      ∙ holds-passed 12 (reducedQ (p .N) (p .q) (coefficient e)) [] m r
+      ∙ none-left m

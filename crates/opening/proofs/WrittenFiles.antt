@@ -1,0 +1,197 @@
+-- The private file of an accepted key and a sealed file, as they are written, open to the message.
+use mathlib.Core.Path.{_≡_, refl, sym, _∙_, ap, ap₂, subst}
+use mathlib.Core.Bool.{false, _&&_}
+use mathlib.Core.List.{List, [], _∷_, _++_}
+use mathlib.Core.Logic.{_≢_}
+use Prim.Native.Nat.{ℕ, _*_, _≤_}
+use native.Mathlib.Omega.{arith}
+use lib.Dec.{T, eqb, eqb-refl}
+use lib.IntN.{ℤ}
+use lib.ListN.{length, length-append, List·getD-append}
+use lib.Seq.{take-at, drop-at}
+use mir.Facts.{yes-and}
+use Rattle.integers.proofs.Tests.{equal-2}
+use Rattle.refusals.specs.Outcomes.{done, outcome}
+use Rattle.refusals.proofs.Checks.{passed, holds-passed, none-left, done-passed, done-parts, done-all, passed-all, done-with}
+use Rattle.eisenstein.specs.Values.{same, 𝟘}
+use Rattle.eisenstein.proofs.Equality.{same-true}
+use Rattle.parameters.specs.Sets.{ParameterSet, outside, parameterChecks}
+use Rattle.polynomials.specs.Polynomials.{coefficient, convolution, one, congruentQ, congruent2}
+use Rattle.packing.specs.Messages.{messageBytes}
+use Rattle.etru.specs.declared.ArraySet.the-variants.{F, G, ReducedModulo2, ReducedModuloQ}
+use Rattle.etru.specs.Calls.{keyChecks, keyCheck, openingChecks, opening}
+use Rattle.etru.specs.Demand3.{AcceptedKey, Opens}
+use Rattle.etru.proofs.AcceptedParameters.{modulus-nonzero}
+use Rattle.etru.proofs.Passed.{Checking, key-passed, opening-passed}
+use Rattle.etru.proofs.Demand3.{Key, accepted-key, demand-3}
+use Rattle.files.specs.Files.{arraysOf, numberCount, fileLength, number16, unsignedAt, headOf, fileOf}
+use Rattle.files.specs.Calls.{headChecks, readingHead, setChecks, contentChecks, readingChecks, reading, writingChecks, writing}
+use Rattle.files.proofs.SetChecks.{own}
+use Rattle.files.proofs.ArraysOfKinds.{private-arrays, sealed-arrays}
+use Rattle.files.proofs.Passed.{contents-passed, file-length}
+use Rattle.files.proofs.RoundTrips.{reading-undoes-writing}
+use Rattle.opening.specs.Lines.{decimal, lineOf}
+use Rattle.opening.specs.Program.{firstLength, fileChecks, numbersOf, arrayOf, sameSet, pairChecks, inverseChecks, messageOf, openingPair, openingFiles, openingLine}
+use Rattle.opening.specs.Promises.{OpensFiles, Written-files-open}
+use Rattle.opening.proofs.JoinedArrays.{first-array, later-array, first-check, last-check}
+
+-- ---- writing, where all is in order
+
+writes : (kind : ℕ) (p : ParameterSet) (l : List ℤ) → outside 1 3 kind ≡ false → outcome (parameterChecks p) (tt {0}) ≡ done (tt {0}) → length l ≡ numberCount kind (p .N) → outcome (setChecks p (arraysOf kind) l) (tt {0}) ≡ done (tt {0}) → writing kind p l (fileLength kind (p .N)) ≡ done (fileOf kind p l)
+unfolding writing writingChecks contentChecks
+writes kind p l k c n s =
+    passed 19 _ _ k
+    ∙ passed-all (parameterChecks p) _ _ c
+    ∙ holds-passed 7 (eqb (fileLength kind (p .N)) (fileLength kind (p .N)) && eqb (length l) (numberCount kind (p .N))) _ _ (equal-2 {a = fileLength kind (p .N)} refl n)
+    ∙ done-with (setChecks p (arraysOf kind) l) _ s
+
+-- ---- a file that is written, as the program reads it
+
+record Reads (kind : ℕ) (p : ParameterSet) (l : List ℤ) (file : List ℕ) : Type 0 where
+  head : headOf file ≡ p
+  numbers : numbersOf file ≡ l
+  long : length file ≡ fileLength kind (p .N)
+  checks : outcome (fileChecks kind file) (tt {0}) ≡ done (tt {0})
+
+written-reads : (kind : ℕ) (p : ParameterSet) (l : List ℤ) (room : ℕ) (file : List ℕ) → writing kind p l room ≡ done file → Reads kind p l file
+unfolding readingHead reading readingChecks fileChecks
+written-reads kind p l room file e =
+    let r = reading-undoes-writing kind p l room file e in
+    let h = done-parts (headChecks kind file ++ parameterChecks (headOf file)) (headOf file) p (r .0) in
+    let n = done-parts (readingChecks kind file (length l)) (numbersOf file) l (r .1) in
+    let k = done-all (headChecks kind file) _ _ _ (n .0) in
+    let m = done-all (parameterChecks (headOf file)) _ _ _ (k .1) in
+    let c = contents-passed kind (headOf file) (numbersOf file) (length l) (length file) (m .1) in
+    record {
+      head = h .1;
+      numbers = n .1;
+      long = c .file-is ∙ ap (λ (p : ParameterSet). fileLength kind (p .N)) (h .1);
+      checks = subst (λ (room : ℕ). outcome (readingChecks kind file room) (tt {0}) ≡ done (tt {0})) (c .numbers-are) (n .0);
+    }
+
+-- ---- two files, parted where the first one's head says
+
+first-length : (first second : List ℕ) → 16 ≤ length first → firstLength (first ++ second) ≡ fileLength 2 (headOf first .N)
+unfolding firstLength headOf unsignedAt
+first-length first second h =
+    ap₂ (λ (high low : ℕ). fileLength 2 (number16 high low)) (List·getD-append first second 0 6 (omega arith)) (List·getD-append first second 0 7 (omega arith))
+
+parted : (first second : List ℕ) → length first ≡ fileLength 2 (headOf first .N) → openingFiles (first ++ second) ≡ openingPair first second
+unfolding openingFiles
+parted first second e =
+    let f = first-length first second (omega (arith, file-length 2 (headOf first .N))) in
+    ap₂ openingPair (take-at first second _ (e ∙ sym f)) (drop-at first second _ (e ∙ sym f))
+
+-- ---- the pair of an accepted key and what was sealed for it
+
+same-set : (p : ParameterSet) → T (sameSet p p)
+unfolding sameSet
+same-set p =
+    yes-and (eqb (p .N) (p .N)) (same (p .q) (p .q) && (eqb (p .s) (p .s) && eqb (p .t) (p .t))) (eqb-refl (p .N))
+    (yes-and (same (p .q) (p .q)) (eqb (p .s) (p .s) && eqb (p .t) (p .t)) (subst T (sym (same-true {x = p .q} refl)) tt) (equal-2 {a = p .s} {b = p .t} refl refl))
+
+module _ {p : ParameterSet} {f F2 Fq g h φ : List ℤ} {message : List ℕ} (accepted : AcceptedKey p f F2 Fq g h) (o : Opens p f F2 h φ message) where
+  -- the numbers of the private file
+  abbrev numbers : List ℤ
+  numbers = f ++ (F2 ++ (Fq ++ g))
+
+  key : Key p f F2 Fq g h
+  key = accepted-key accepted
+
+  q≢0 : p .q ≢ 𝟘
+  q≢0 = modulus-nonzero p (key .parameters)
+
+  -- what the key check and opening have passed, after the parameters
+  key-checks : outcome (keyChecks p f F2 Fq g (2 * p .N)) (tt {0}) ≡ done (tt {0})
+  unfolding keyCheck
+  key-checks = done-parts _ _ _ (done-all (parameterChecks p) _ _ _ (accepted .accepted) .1) .0
+
+  opening-checks : outcome (openingChecks (p .N) (p .q) (p .t) f F2 (o .e) (messageBytes (p .N))) (tt {0}) ≡ done (tt {0})
+  unfolding opening
+  opening-checks = done-parts _ _ _ (done-all (parameterChecks p) _ _ _ (o .opens) .1) .0
+
+  key-arrays : Checking p Fq g (2 * p .N)
+  key-arrays = key-passed p (key .parameters .q-small) q≢0 f F2 Fq g (2 * p .N) key-checks
+
+  e-full : length (o .e) ≡ 2 * p .N
+  e-full = opening-passed (p .N) (p .q) (key .parameters .q-small) q≢0 (p .t) f F2 (o .e) (messageBytes (p .N)) opening-checks .e-ready .long
+
+  -- each array is in its set: the four checks after the lengths, and the last one of opening
+  private-sets : outcome (setChecks p (arraysOf 2) numbers) (tt {0}) ≡ done (tt {0})
+  unfolding keyChecks
+  private-sets =
+      rw (private-arrays 2 refl, first-check p f (key .f-full), first-check p F2 (key .F2-full), first-check p Fq (key-arrays .Fq-ready .long), last-check p g (key-arrays .g-ready .long))
+      (done-all (own p F f ∷ own p ReducedModulo2 F2 ∷ own p ReducedModuloQ Fq ∷ own p G g ∷ []) _ _ _ (done-passed 7 _ _ _ _ key-checks .1) .0)
+
+  sealed-sets : outcome (setChecks p (arraysOf 3) (o .e)) (tt {0}) ≡ done (tt {0})
+  unfolding openingChecks
+  sealed-sets =
+      rw (sealed-arrays 3 refl, last-check p (o .e) e-full)
+      (done-passed 11 _ _ _ _ (done-passed 8 _ _ _ _ (done-passed 7 _ _ _ _ opening-checks .1) .1) .1)
+
+  -- the two files are written
+  private : List ℕ
+  private = fileOf 2 p numbers
+
+  sealed : List ℕ
+  sealed = fileOf 3 p (o .e)
+
+  writes-private : writing 2 p numbers (fileLength 2 (p .N)) ≡ done private
+  unfolding private outside numberCount arraysOf
+  writes-private =
+      writes 2 p numbers refl (key .parameters .checks)
+      (simp length-append (omega (arith, key .f-full, key .F2-full, key-arrays .Fq-ready .long, key-arrays .g-ready .long)))
+      private-sets
+
+  writes-sealed : writing 3 p (o .e) (fileLength 3 (p .N)) ≡ done sealed
+  unfolding sealed outside numberCount arraysOf
+  writes-sealed = writes 3 p (o .e) refl (key .parameters .checks) (omega (arith, e-full)) sealed-sets
+
+  -- the pair passes its checks, and opens
+  f-is : arrayOf p 0 numbers ≡ f
+  f-is = first-array p f (key .f-full) (F2 ++ (Fq ++ g))
+
+  F2-is : arrayOf p 1 numbers ≡ F2
+  F2-is = later-array p f (key .f-full) 0 (F2 ++ (Fq ++ g)) ∙ first-array p F2 (key .F2-full) (Fq ++ g)
+
+  Fq-is : arrayOf p 2 numbers ≡ Fq
+  Fq-is =
+      later-array p f (key .f-full) 1 (F2 ++ (Fq ++ g))
+      ∙ later-array p F2 (key .F2-full) 0 (Fq ++ g)
+      ∙ first-array p Fq (key-arrays .Fq-ready .long) g
+
+  pair-opens : outcome (pairChecks p numbers p) (messageOf p numbers (o .e)) ≡ done message
+  unfolding pairChecks inverseChecks messageOf
+  pair-opens =
+      rw (f-is, F2-is, Fq-is)
+      (holds-passed 20 (sameSet p p) _ _ (same-set p)
+      ∙ holds-passed 13 (congruent2 (p .N) (convolution (p .N) (coefficient f) (coefficient F2)) one) _ _ (key .inverse-2)
+      ∙ holds-passed 14 (congruentQ (p .N) (p .q) (convolution (p .N) (coefficient f) (coefficient Fq)) one) _ _ (key .inverse-q)
+      ∙ none-left _
+      ∙ ap done (o .forms))
+
+  files-open : openingFiles (private ++ sealed) ≡ done message
+  unfolding openingPair
+  files-open =
+      let r = written-reads 2 p numbers (fileLength 2 (p .N)) private writes-private in
+      let t = written-reads 3 p (o .e) (fileLength 3 (p .N)) sealed writes-sealed in
+      parted private sealed (rw (r .head) (r .long))
+      ∙ passed-all (fileChecks 2 private) _ _ (r .checks)
+      ∙ passed-all (fileChecks 3 sealed) _ _ (t .checks)
+      ∙ rw (r .head, r .numbers, t .head, t .numbers) pair-opens
+
+  files-line : OpensFiles p f F2 Fq g h φ message
+  unfolding openingLine decimal
+  files-line = record {
+    e = o .e;
+    private = private;
+    sealed = sealed;
+    seals = o .seals;
+    writes-private = writes-private;
+    writes-sealed = writes-sealed;
+    line = ap lineOf files-open;
+  }
+
+pub written-files-open : Written-files-open
+written-files-open p f F2 Fq g h φ message key ephemeral msg =
+    files-line key (demand-3 .opens p f F2 Fq g h φ message key ephemeral msg)

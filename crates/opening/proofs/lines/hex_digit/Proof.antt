@@ -1,0 +1,16 @@
+-- `hex_digit` meets its contract.
+use borrow.Author.Needs.{needs}
+use borrow.Author.Tests.{lt-ltb, le-ltb}
+use Rattle.opening.specs.Lines.{hexDigit}
+use Rattle.opening.proofs.lines.hex_digit.Statement.{statement}
+use Rattle.opening.proofs.lines.hex_digit.Tie as tie
+
+pub hex-digit-spec : {M : Type 1} → statement M
+unfolding hexDigit
+hex-digit-spec =
+    tie.close
+    (tie.spec
+    (λ c. search needs)
+    (λ c. rw (lt-ltb _ _ (c .if1 .taken)))
+    (λ c. search needs)
+    (λ c. rw (le-ltb _ _ (c .if1 .left))))

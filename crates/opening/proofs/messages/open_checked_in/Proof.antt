@@ -1,0 +1,108 @@
+-- `open_checked_in` meets its contract: the key check gives 13 and 14, then nothing is refused.
+use mathlib.Core.Path.{_≡_, refl, sym, _∙_, ap}
+use mathlib.Core.List.{List}
+use Prim.Native.Nat.{ℕ, _-_, _*_}
+use native.Mathlib.Omega.{arith}
+use borrow.Author.Needs.{needs}
+use lib.Dec.{T}
+use lib.IntN.{ℤ}
+use lib.ListN.{length, take, drop}
+use lib.Seq.{length-take-le}
+use Rattle.refusals.specs.Outcomes.{outcome, number}
+use Rattle.refusals.specs.Numbers.{numberOf, answered}
+use Rattle.refusals.specs.declared.Answer.{Answer}
+use Rattle.refusals.proofs.Checks.{positive, done-by-number, done-parts, done-with, refused-by-number, refused-plain, refused-with}
+use Rattle.refusals.proofs.Numbers.{number-positive}
+use Rattle.parameters.specs.Sets.{ParameterSet, setOf}
+use Rattle.polynomials.specs.Polynomials.{coefficient, array}
+use Rattle.packing.specs.Messages.{messageBytes}
+use Rattle.etru.specs.Scheme.{publicKey}
+use Rattle.etru.specs.Calls.{keyCheck, opening}
+use Rattle.opening.specs.Program.{arrayOf, inverseChecks, messageOf}
+use Rattle.opening.proofs.ReadKeys.{part-is, key-checked, opens}
+use Rattle.opening.proofs.messages.open_checked_in.Statement.{statement}
+use Rattle.opening.proofs.messages.open_checked_in.Tie as tie
+
+abbrev P : tie.Start → ParameterSet
+P s = setOf (s .args .p)
+
+abbrev numbers : tie.Start → List ℤ
+numbers s = s .args .numbers .now
+
+-- the four arrays, as the code parts them
+abbrev one : tie.Start → ℕ
+one s = 2 * s .args .p .n
+
+f-is : (s : tie.Start) → take (one s) (numbers s) ≡ arrayOf (P s) 0 (numbers s)
+f-is s = part-is (P s) 0 (numbers s) (one s) 0 refl (omega arith)
+
+F2-is : (s : tie.Start) → take (2 * one s - one s) (drop (one s) (numbers s)) ≡ arrayOf (P s) 1 (numbers s)
+F2-is s = part-is (P s) 1 (numbers s) (2 * one s - one s) (one s) (omega arith) (omega arith)
+
+Fq-is : (s : tie.Start) → take (3 * one s - 2 * one s) (drop (2 * one s) (numbers s)) ≡ arrayOf (P s) 2 (numbers s)
+Fq-is s = part-is (P s) 2 (numbers s) (3 * one s - 2 * one s) (2 * one s) (omega arith) (omega arith)
+
+g-is : (s : tie.Start) → take (4 * one s - 3 * one s) (drop (3 * one s) (numbers s)) ≡ arrayOf (P s) 3 (numbers s)
+g-is s = part-is (P s) 3 (numbers s) (4 * one s - 3 * one s) (3 * one s) (omega arith) (omega arith)
+
+-- the public key that the check forms
+abbrev public : tie.Start → List ℤ
+public s = array (P s .N) (publicKey (P s) (coefficient (arrayOf (P s) 2 (numbers s))) (coefficient (arrayOf (P s) 3 (numbers s))))
+
+-- the key check's number is that of 13 and 14
+key-number : (c : tie.After-check-key) → let s = c .before .before .before .before .before .before .before in number (answered (c .check-key .result)) ≡ number (outcome (inverseChecks (P s) (numbers s)) (public s))
+key-number c =
+    let s = c .before .before .before .before .before .before .before in
+    c .check-key .ensures .0
+    ∙ (λ i. number (keyCheck (P s) (f-is s i) (F2-is s i) (Fq-is s i) (g-is s i) (length (s .args .h .now))))
+    ∙ ap number (key-checked (P s) (numbers s) (s .pre .0) (s .pre .1) (s .pre .2) (length (s .args .h .now)) (s .pre .5))
+
+inverses-positive : (p : ParameterSet) (l : List ℤ) → T (positive (inverseChecks p l))
+unfolding inverseChecks
+inverses-positive p l = tt
+
+pub open-checked-in-spec : {M : Type 1} → statement M
+open-checked-in-spec =
+    tie.close
+    (tie.spec
+    (λ c. search needs)
+    (λ c. search needs)
+    (λ c. search needs)
+    (λ c. search needs)
+    (λ c. search needs)
+    (λ c. let s = c .before .before in sym (length-take-le (one s) (numbers s) (omega (arith, s .pre .1))))
+    (λ c. search needs)
+    (λ c. search needs)
+    (λ c. search needs)
+    (λ c. search needs)
+    (λ c. search needs)
+    (λ c. search needs)
+    (λ c. search needs)
+    (λ c. search needs)
+    (λ c. search needs)
+    (λ c. search needs)
+    (λ c. search needs)
+    (λ c. search needs)
+    (λ c κs. search needs)
+    (λ c. search needs)
+    (λ c κs. search needs)
+    (λ c. search needs)
+    (λ c. search needs)
+    (λ c. search needs)
+    (λ c.
+    let k = c .before .before .before .before .before .before .before in
+    let s = k .before .before .before .before .before .before .before in
+    let cs = inverseChecks (P s) (numbers s) in
+    let passed = done-parts cs (public s) (public s) (done-by-number cs (public s) (inverses-positive (P s) (numbers s)) (sym (key-number k) ∙ ap (λ (a : Answer). number (answered a)) (c .before .before .before .before .enum-told .given .1))) .0 in
+    c .before .before .open-message .ensures
+    ∙ (λ i. opening (P s) (f-is s i) (F2-is s i) (s .args .e .now) (messageBytes (s .args .p .n)))
+    ∙ opens (P s) (numbers s) (s .pre .0) (s .pre .1) (s .pre .2) (s .args .e .now) (s .pre .3) (s .pre .4)
+    ∙ sym (done-with cs (messageOf (P s) (numbers s) (s .args .e .now)) passed))
+    (λ c. search needs)
+    (λ c.
+    let k = c .before .before .before .before in
+    let s = k .before .before .before .before .before .before .before in
+    let cs = inverseChecks (P s) (numbers s) in
+    let r = c .before .refusal .given .0 .0 in
+    let e = refused-by-number (outcome cs (public s)) (numberOf r) (number-positive r) (sym (key-number k) ∙ ap (λ (a : Answer). number (answered a)) (c .before .refusal .given .1)) in
+    sym (refused-with cs (messageOf (P s) (numbers s) (s .args .e .now)) (numberOf r) (refused-plain cs (public s) (numberOf r) (number-positive r) e))))

@@ -1,0 +1,23 @@
+-- The line that the opening program prints (document 01, 'Files').
+use mathlib.Core.Bool.{cond}
+use mathlib.Core.List.{List, [], _∷_, _++_}
+use Prim.Native.Nat.{ℕ, _+_, _/_, _%_}
+use lib.Dec.{ltb}
+use Rattle.refusals.specs.Outcomes.{Outcome, done, refused}
+
+-- "the refusal number in decimal": it has at most two digits
+unfoldable pub decimal : ℕ → List ℕ
+decimal n = cond (ltb n 10) ((48 + n) ∷ []) ((48 + n / 10) ∷ (48 + n % 10) ∷ [])
+
+-- "the message bytes in uppercase hexadecimal"
+unfoldable pub hexDigit : ℕ → ℕ
+hexDigit d = cond (ltb d 10) (48 + d) (55 + d)
+
+unfoldable pub hex : List ℕ → List ℕ
+hex [] = []
+hex (b ∷ rest) = hexDigit (b / 16) ∷ hexDigit (b % 16) ∷ hex rest
+
+-- "one line: the refusal number in decimal (0 if none), a space, and the message bytes in uppercase hexadecimal, or a hyphen after a refusal"
+abbrev pub lineOf : Outcome (List ℕ) → List ℕ
+lineOf (done message) = decimal 0 ++ (32 ∷ hex message ++ (10 ∷ []))
+lineOf (refused n) = decimal n ++ (32 ∷ 45 ∷ 10 ∷ [])

@@ -1,0 +1,90 @@
+// The opening program's work: from its input to the line that it prints.
+// It asks nothing of its input. At N = 1,024 it takes about 100 KiB of stack.
+ghost use mathlib.Core.Path.{_≡_};
+ghost use mathlib.Core.List.{_++_};
+ghost use lib.ListN.{length, drop};
+ghost use Rattle.refusals.specs.Outcomes.{number, written};
+ghost use Rattle.refusals.specs.Numbers.{answered};
+ghost use Rattle.opening.specs.Lines.{lineOf};
+ghost use Rattle.opening.specs.Program.{openingFiles, openingLine, openedIs, lineWriting, lineLength};
+
+mod arrays;
+mod lines;
+mod messages;
+mod private_files;
+mod sealed_files;
+
+use parameters::Made;
+use refusals::Answer;
+use refusals::Refusal;
+
+// The longest line: `0`, a space, 256 bytes in hexadecimal and a newline.
+pub const LINE_BYTES: usize = 515;
+
+// A message of so many bytes, or the first refusal.
+pub(crate) enum Opened {
+    Message(usize),
+    Refused(Refusal),
+}
+
+fn open_input(input: &[u8], message: &mut [u8]) -> Opened
+    requires { ⌜ length (now message) ≡ 256 ⌝ }
+    ensures { λ r. ⌜ openedIs r (now (message .exit)) ≡ openingFiles (now (input .entry)) ⌝ }
+{
+    match files::read_head(2, input) {
+        Made::Accepted(p) => private_files::open_private(p, input, message),
+        Made::Refused(refusal) => Opened::Refused(refusal),
+    }
+}
+
+// Room for the longest message.
+fn largest() -> [u8; 256]
+    ensures { λ r. ⌜ length r ≡ 256 ⌝ }
+{
+    [0u8; 256]
+}
+
+// The line of what was opened, to the front of line; answers its length.
+fn write_opened(opened: Opened, message: &[u8], line: &mut [u8]) -> usize
+    requires { ⌜ (length (now message) ≡ 256) × (length (now line) ≡ 515) ⌝ }
+    ensures { λ r. ⌜ (r ≡ length (lineOf (openedIs opened (now (message .entry))))) × (now (line .exit) ≡ lineOf (openedIs opened (now (message .entry))) ++ drop r (now (line .entry))) ⌝ }
+{
+    match opened {
+        Opened::Message(n) => {
+            // No message is longer than its room.
+            let end = arrays::least(n, message.len());
+            lines::write_message(&message[..end], line)
+        }
+        Opened::Refused(refusal) => lines::write_refusal(refusal.number(), line),
+    }
+}
+
+// The message goes to a lent one.
+fn write_line_in(input: &[u8], message: &mut [u8], line: &mut [u8]) -> usize
+    requires { ⌜ (length (now message) ≡ 256) × (length (now line) ≡ 515) ⌝ }
+    ensures { λ r. ⌜ (r ≡ length (openingLine (now (input .entry)))) × (now (line .exit) ≡ openingLine (now (input .entry)) ++ drop r (now (line .entry))) ⌝ }
+{
+    let opened = open_input(input, message);
+    write_opened(opened, message, line)
+}
+
+fn write_line(input: &[u8], line: &mut [u8]) -> usize
+    requires { ⌜ length (now line) ≡ 515 ⌝ }
+    ensures { λ r. ⌜ (r ≡ length (openingLine (now (input .entry)))) × (now (line .exit) ≡ openingLine (now (input .entry)) ++ drop r (now (line .entry))) ⌝ }
+{
+    let mut message = largest();
+    let all = 256;
+    write_line_in(input, &mut message[..all], line)
+}
+
+// The line that the opening program prints for its input, to the front of line, and its length to used. Any input has its line, so the call refuses only a line that is not lent with LINE_BYTES bytes.
+pub fn open_files(input: &[u8], line: &mut [u8], used: &mut usize) -> Answer
+    ensures { λ r. ⌜ (number (answered r) ≡ number (lineWriting (now (input .entry)) (now (line .entry)))) × (now (line .exit) ≡ written (lineWriting (now (input .entry)) (now (line .entry))) (now (line .entry))) × (now (used .exit) ≡ written (lineLength (now (input .entry)) (length (now (line .entry)))) (now (used .entry))) ⌝ }
+{
+    if line.len() != LINE_BYTES {
+        return Answer::Refused(Refusal::WrongLength);
+    }
+    let end = write_line(input, line);
+    *used = end;
+    Answer::Done
+}
