@@ -7,9 +7,10 @@ The last line is 'N passed, M failed'; the exit status is 1 if anything failed.
 import argparse
 import random
 import sys
-from math import isqrt
 
 import etru_reference as reference
+from keys import KEY_MODULI, ONE, SEALED, SMALL, TRIPLE, Key
+from keys import random_message, random_parameters, random_reduced, random_zero_sum
 from library import Library
 
 LOW64, HIGH64 = -(2**63), 2**63 - 1
@@ -74,13 +75,6 @@ def documented_lines(results, library):
         for k in range(6):
             product = reference.multiply(reference.UNITS[j], reference.UNITS[k])
             results.expect(f"units {j} and {k}", product, reference.UNITS[(j + k) % 6])
-
-
-# document 01's smallest key: N = 3, q = 15, s = 3, t = 1
-SMALL = reference.Parameters(3, (15, 0), 3, 1)
-ONE = [1, 0, 0, 0, 0, 0]
-TRIPLE = [1, 0, 0, 1, -1, -1]
-SEALED = [7, 0, -1, 5, -6, -6]
 
 
 def documented_scheme(results, library, rng):
@@ -241,172 +235,8 @@ def parameter_sets(results, library, rng):
                 one(n, q, s, near)
 
 
-# ---- making keys: inverses modulo 2 and modulo q of a polynomial f
+# ---- random keys
 
-
-def remainder(x, m):
-    """One value for each class modulo m, found faster than the smallest one."""
-    n = reference.norm(m)
-    u, v = reference.multiply(x, (m[0] - m[1], -m[1]))
-    return reference.subtract(x, reference.multiply(m, (u // n, v // n)))
-
-
-def primes_over(p):
-    """Primes of Z[ω] that divide the rational prime p, one or more of each set of associates."""
-    if p % 3 == 2:
-        return [(p, 0)]
-    found = []
-    for b in range(1, isqrt(4 * p // 3) + 1):
-        # a² - ab + b² = p as an equation in a
-        root = isqrt(4 * p - 3 * b * b)
-        if root * root == 4 * p - 3 * b * b:
-            found += [((b + root) // 2, b), ((b - root) // 2, b)]
-    return found
-
-
-def prime_factors(q):
-    """Primes of Z[ω] whose product is q times a unit."""
-    found = []
-    while reference.norm(q) > 1:
-        n = reference.norm(q)
-        p = next((p for p in range(2, isqrt(n) + 1) if n % p == 0), n)
-        prime = next(prime for prime in primes_over(p) if remainder(q, prime) == (0, 0))
-        found.append(prime)
-        u, v = reference.multiply(q, (prime[0] - prime[1], -prime[1]))
-        q = (u // reference.norm(prime), v // reference.norm(prime))
-    return found
-
-
-def power(x, exponent, m):
-    result = (1, 0)
-    while exponent:
-        if exponent % 2:
-            result = remainder(reference.multiply(result, x), m)
-        x = remainder(reference.multiply(x, x), m)
-        exponent //= 2
-    return result
-
-
-def take_off(x, factor, shift, y, m):
-    """x less factor · X^shift · y, without leading zeros."""
-    result = x + [(0, 0)] * (len(y) + shift - len(x))
-    for i, value in enumerate(y, shift):
-        result[i] = remainder(reference.subtract(result[i], reference.multiply(factor, value)), m)
-    while result and result[-1] == (0, 0):
-        result.pop()
-    return result
-
-
-def inverse_modulo_prime(f, m):
-    """By Euclid's rule on f and X^N - 1 over the field Z[ω]/m; None if there is no inverse."""
-    n = len(f)
-
-    def invert(x):
-        return power(x, reference.norm(m) - 2, m)
-
-    # each pair is r and v with r = v · f modulo X^N - 1
-    (r, v), (r2, v2) = ([(-1, 0)] + [(0, 0)] * (n - 1) + [(1, 0)], []), (take_off([], (-1, 0), 0, f, m), [(1, 0)])
-    while r2:
-        lead = invert(r2[-1])
-        while len(r) >= len(r2):
-            factor, shift = remainder(reference.multiply(r[-1], lead), m), len(r) - len(r2)
-            r, v = take_off(r, factor, shift, r2, m), take_off(v, factor, shift, v2, m)
-        (r, v), (r2, v2) = (r2, v2), (r, v)
-    if len(r) > 1:
-        return None
-    lead = invert(r[0])
-    return [remainder(reference.multiply(lead, value), m) for value in v] + [(0, 0)] * (n - len(v))
-
-
-def inverse(f, q):
-    """The inverse of f modulo q, or None."""
-    n = len(f)
-    places = [i for i in range(n) if f[i] != (0, 0)]
-    if len(places) == 1:
-        # a unit times X^k: the conjugate of the unit, times X^(N-k)
-        a, b = f[places[0]]
-        result = [(0, 0)] * n
-        result[-places[0] % n] = (a - b, -b)
-        return result
-    primes = prime_factors(q)
-    found = {}
-    for prime in primes:
-        if prime not in found:
-            found[prime] = inverse_modulo_prime(f, prime)
-        if found[prime] is None:
-            return None
-    result = found[primes[0]]
-    for prime in primes[1:]:
-        # (1 - f·x)(1 - f·y) = 1 - f·(x + y - f·x·y) is zero modulo both moduli's product
-        x, y = result, found[prime]
-        product = reference.convolve(f, [remainder(value, q) for value in reference.convolve(x, y)])
-        result = [remainder(reference.subtract(reference.add(a, b), c), q) for a, b, c in zip(x, y, product)]
-    return result
-
-
-def random_f(rng, n, t):
-    f = [(0, 0)] * n
-    for place in rng.sample(range(n), t):
-        f[place] = rng.choice(reference.UNITS)
-    return f
-
-
-def random_zero_sum(rng, n, s):
-    """s units of sum zero: pairs u, -u and triples u, uω, uω², at random places."""
-    pairs = 3 * rng.randint(0, s // 6)
-    alike = rng.randrange(6) if rng.randrange(3) == 0 else None
-    units = []
-    for k in range(pairs + (s - 2 * pairs) // 3):
-        first = rng.randrange(6) if alike is None else alike
-        steps = (0, 3) if k < pairs else (0, 2, 4)
-        units += [reference.UNITS[(first + step) % 6] for step in steps]
-    result = [(0, 0)] * n
-    for place, unit in zip(rng.sample(range(n), s), units):
-        result[place] = unit
-    return reference.array(result)
-
-
-def random_message(rng, n, kind):
-    """All bits zero, all bits one or random bits; the spare bits are zero."""
-    length = reference.message_length(n)
-    message = [{"zero": 0, "one": 255}.get(kind, rng.randrange(256)) for _ in range(length)]
-    message[-1] &= 256 - 2 ** (8 * length - 2 * n)
-    return message
-
-
-def random_reduced(rng, p):
-    return reference.array(reference.reduce_q((rng.randint(-9999, 9999), rng.randint(-9999, 9999)), p.q) for _ in range(p.n))
-
-
-def random_parameters(rng, n, q):
-    """s and t at an end of what the bound allows, or between."""
-    most = isqrt((reference.norm(q) - 1) // 4)
-    s_most = min(n // 3, (most - 1) // 6)
-    s = 3 * rng.choice([1, s_most, rng.randint(1, s_most)])
-    t_most = min(n, most - 2 * s)
-    t = rng.choice([1, t_most, t_most, rng.randint(1, t_most)])
-    return reference.Parameters(n, q, s, t)
-
-
-class Key:
-    """A private key with random f and g, if one is met within the tries; its `f` is None otherwise."""
-
-    def __init__(self, rng, p, tries):
-        self.p = p
-        self.f = None
-        for _ in range(tries):
-            f = random_f(rng, p.n, p.t)
-            f2 = inverse(f, (2, 0))
-            fq = None if f2 is None else inverse(f, p.q)
-            if fq is not None:
-                self.f = reference.array(f)
-                self.f2 = reference.array(reference.all_reduced_2(f2))
-                self.fq = reference.array(reference.all_reduced_q(fq, p.q))
-                self.g = random_zero_sum(rng, p.n, p.s)
-                return
-
-
-KEY_MODULI = [(15, 0), (0, 81), (11, 86), (45, 30), (101, 0), (-105, 0), (0, -55), (77, -14), (4095, 4095), (4095, -4095), (-4095, 0), (-4095, 4094), (1, 4095)]
 # N from 509 on, with s and t at an end or within
 LARGE_KEYS = [
     (509, (11, 86), 12, 16),
@@ -523,12 +353,9 @@ class Case:
 def parameter_spoils(case):
     """For each check of the parameters, in order: its number and changes that make it apply."""
     s, t = case.s, case.t
-    one = (1, [lambda case, n=n: case.but(n=n) for n in (0, 1, 2, 1025, 2**31, 2**32 - 1)])
-    if case.call in WITHOUT_PARAMETERS:
-        return [one]
     beyond = (4096, -4096, HIGH32, LOW32)
     return [
-        one,
+        (1, [lambda case, n=n: case.but(n=n) for n in (0, 1, 2, 1025, 2**31, 2**32 - 1)]),
         (2, [lambda case, c=c: case.but(q=(c, case.q[1])) for c in beyond] + [lambda case, d=d: case.but(q=(case.q[0], d)) for d in beyond]),
         (3, [lambda case: case.but(q=(case.q[0] // 2 * 2, case.q[1] // 2 * 2)), lambda case: case.but(q=(0, 0))]),
         (4, [lambda case, s=s: case.but(s=s) for s in (0, 1, s - 1, s + 1, 2**31, 2**32 - 1)] + [lambda case: case.but(s=case.n // 3 * 3 + 3)]),
@@ -608,19 +435,23 @@ def array_changes(rng, case, number, name):
     return changes
 
 
+def in_array(name, changes):
+    """Changes of one array as changes of the case."""
+    return [lambda case, change=change: case.with_array(name, change(case.arrays[name])) for change in changes]
+
+
 def spoils(rng, case):
     """Each check of the call in order: its number, and changes of the case that make it apply."""
-    steps = parameter_spoils(case) + [length_spoils(case)]
+    steps = parameter_spoils(case)[: 1 if case.call in WITHOUT_PARAMETERS else 6] + [length_spoils(case)]
     for number, name in ORDER[case.call]:
-        changes = array_changes(rng, case, number, name)
-        steps.append((number, [lambda case, name=name, change=change: case.with_array(name, change(case.arrays[name])) for change in changes]))
+        steps.append((number, in_array(name, array_changes(rng, case, number, name))))
     return [(number, changes) for number, changes in steps if changes]
 
 
 def cases_of(rng, key):
     """An accepted case of each call with this key."""
     p, n = key.p, key.p.n
-    h = reference.call_check_key(p, key.f, key.f2, key.fq, key.g, 2 * n)[1]
+    h = key.h()
     phi, message = random_zero_sum(rng, n, p.s), random_message(rng, n, "random")
     e = reference.call_seal(p, h, phi, message, 2 * n)[1]
     m = reference.array(reference.pack(n, message))
@@ -638,27 +469,31 @@ def random_number(rng):
     return rng.randint(LOW32, HIGH32) if kind == 1 else rng.randint(-2, 2)
 
 
+def spoiled_in_order(rng, case, steps):
+    """Spoiled cases with the number that is due: by each change, by two checks in a row, and by several checks."""
+    for k, (number, changes) in enumerate(steps):
+        for change in changes:
+            yield (number, change(case))
+        # with the check that follows: the later change is made first
+        for later in steps[k + 1][1] if k + 1 < len(steps) else []:
+            for change in changes if len(changes) <= 8 else rng.sample(changes, 8):
+                yield (number, change(later(case)))
+    for _ in range(150):
+        chosen = sorted(rng.sample(range(len(steps)), min(len(steps), rng.randint(2, 4))), reverse=True)
+        changed = case
+        for k in chosen:
+            changed = rng.choice(steps[k][1])(changed)
+        yield (steps[chosen[-1]][0], changed)
+
+
 def refusals(results, library, rng):
     # t is the largest that the bound allows, and below N
     for p in [SMALL, reference.Parameters(17, (11, 86), 12, 16), reference.Parameters(13, (45, 30), 6, 7), reference.Parameters(8, (0, -27), 3, 7)]:
         key = Key(rng, p, 1000)
         for case in cases_of(rng, key):
             case.run(results, library, rng, 0)
-            steps = spoils(rng, case)
-            for k, (number, changes) in enumerate(steps):
-                for change in changes:
-                    change(case).run(results, library, rng, number)
-                # with the check that follows: the later change is made first
-                for later in steps[k + 1][1] if k + 1 < len(steps) else []:
-                    for change in changes if len(changes) <= 8 else rng.sample(changes, 8):
-                        change(later(case)).run(results, library, rng, number)
-            # several of all the checks
-            for _ in range(150):
-                chosen = sorted(rng.sample(range(len(steps)), min(len(steps), rng.randint(2, 4))), reverse=True)
-                changed = case
-                for k in chosen:
-                    changed = rng.choice(steps[k][1])(changed)
-                changed.run(results, library, rng, steps[chosen[-1]][0])
+            for number, changed in spoiled_in_order(rng, case, spoils(rng, case)):
+                changed.run(results, library, rng, number)
             # numbers of the whole range: in some places, and in every place of one array
             for _ in range(100):
                 name = rng.choice(CALLS[case.call][0])

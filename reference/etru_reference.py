@@ -206,6 +206,10 @@ class Parameters:
     def checks(self):
         return parameter_checks(self.n, self.q, self.s, self.t)
 
+    def numbers(self):
+        """The five numbers N, c, d, s, t."""
+        return (self.n, *self.q, self.s, self.t)
+
 
 def lengths_wrong(n, arrays, room=None, message=None):
     wrong = [len(array) != 2 * n for array in arrays]
@@ -227,6 +231,14 @@ def call_convolve(p, x, y, room):
     return (number, None if number else array(all_reduced_q(convolve(coefficients(x), coefficients(y)), p.q)))
 
 
+def inverse_checks(p, f, f2, fq):
+    f, f2, fq = coefficients(f), coefficients(f2), coefficients(fq)
+    return [
+        (13, lambda: all_reduced_2(convolve(f, f2)) != one(p.n)),
+        (14, lambda: all_reduced_q(convolve(f, fq), p.q) != all_reduced_q(one(p.n), p.q)),
+    ]
+
+
 def call_check_key(p, f, f2, fq, g, room):
     number = first(
         p.checks()
@@ -236,9 +248,8 @@ def call_check_key(p, f, f2, fq, g, room):
             (11, lambda: not reduced_2(coefficients(f2))),
             (12, lambda: not reduced_q(coefficients(fq), p.q)),
             (9, lambda: not units_of_sum_zero(coefficients(g), p.s)),
-            (13, lambda: all_reduced_2(convolve(coefficients(f), coefficients(f2))) != one(p.n)),
-            (14, lambda: all_reduced_q(convolve(coefficients(f), coefficients(fq)), p.q) != all_reduced_q(one(p.n), p.q)),
         ]
+        + inverse_checks(p, f, f2, fq)
     )
     return (number, None if number else array(all_reduced_q(convolve(coefficients(g), coefficients(fq)), p.q)))
 
@@ -296,3 +307,155 @@ def call_unpack(n, m, room):
         ]
     )
     return (number, None if number else unpack(n, coefficients(m)))
+
+
+# ---- Files, as bytes: a head of 16, then arrays of 2N signed 16-bit numbers; numbers are big-endian
+
+PUBLIC_FILE, PRIVATE_FILE, SEALED_FILE = 1, 2, 3
+
+# the arrays of each kind in stored order, each as the number of its check and the condition
+KINDS = {
+    # h
+    PUBLIC_FILE: [(12, lambda p, h: not reduced_q(h, p.q))],
+    # f, F2, Fq, g
+    PRIVATE_FILE: [
+        (8, lambda p, f: not units_only(f, p.t)),
+        (11, lambda p, f2: not reduced_2(f2)),
+        (12, lambda p, fq: not reduced_q(fq, p.q)),
+        (9, lambda p, g: not units_of_sum_zero(g, p.s)),
+    ],
+    # e
+    SEALED_FILE: [(12, lambda p, e: not reduced_q(e, p.q))],
+}
+
+
+def number_count(kind, n):
+    return 2 * n * len(KINDS[kind])
+
+
+def file_length(kind, n):
+    return 16 + 4 * n * len(KINDS[kind])
+
+
+def unsigned(stored):
+    return int.from_bytes(stored, "big")
+
+
+def signed(stored):
+    return int.from_bytes(stored, "big", signed=True)
+
+
+def two_bytes(number):
+    return (number % 2**16).to_bytes(2, "big")
+
+
+def stored_parameters(file):
+    """The parameters in a head of 16 bytes, right or wrong."""
+    q = (signed(file[8:10]), signed(file[10:12]))
+    return Parameters(unsigned(file[6:8]), q, unsigned(file[12:14]), unsigned(file[14:16]))
+
+
+def stored_numbers(file, count):
+    """The first numbers after the head, as many as this; a file that is too short gives fewer."""
+    end = min(len(file), 16 + 2 * count)
+    return [signed(file[at : at + 2]) for at in range(16, end, 2)]
+
+
+def arrays_of(kind, n, numbers):
+    """The numbers of a file, one array after another, as its arrays."""
+    return [numbers[at : at + 2 * n] for at in range(0, number_count(kind, n), 2 * n)]
+
+
+def content_checks(kind, p, numbers, count, length):
+    """What follows the parameters' checks: the count of the numbers, the length of the file, and its arrays."""
+    lengths = [(7, lambda: count != number_count(kind, p.n) or length != file_length(kind, p.n))]
+    arrays = arrays_of(kind, p.n, numbers)
+    return lengths + [
+        (number, lambda applies=applies, array=array: applies(p, coefficients(array)))
+        for (number, applies), array in zip(KINDS[kind], arrays)
+    ]
+
+
+def call_read_head(kind, file):
+    """The value is the file's parameters; `kind` is the one wanted."""
+    number = first(
+        [
+            (16, lambda: len(file) < 16),
+            (17, lambda: file[0:3] != b"EIZ"),
+            (18, lambda: unsigned(file[3:5]) != 1),
+            (19, lambda: kind not in KINDS or file[5] != kind),
+        ]
+    )
+    if number:
+        return (number, None)
+    p = stored_parameters(file)
+    number = first(p.checks())
+    return (number, None if number else p)
+
+
+def call_read(kind, file, room):
+    """The value is the numbers of the file's arrays, one array after another."""
+    number, p = call_read_head(kind, file)
+    if number:
+        return (number, None)
+    numbers = stored_numbers(file, number_count(kind, p.n))
+    number = first(content_checks(kind, p, numbers, room, len(file)))
+    return (number, None if number else numbers)
+
+
+def call_write(kind, p, numbers, room):
+    """The value is the file."""
+    number = first([(19, lambda: kind not in KINDS)] + p.checks())
+    if number:
+        return (number, None)
+    number = first(content_checks(kind, p, numbers, len(numbers), room))
+    if number:
+        return (number, None)
+    stored = b"".join(two_bytes(part) for part in [*p.numbers(), *numbers])
+    return (0, b"EIZ" + two_bytes(1) + bytes([kind]) + stored)
+
+
+def read_file(kind, file):
+    """Read with the room that the head asks for: (number, parameters, arrays)."""
+    number, p = call_read_head(kind, file)
+    if number:
+        return (number, None, None)
+    number, numbers = call_read(kind, file, number_count(kind, p.n))
+    return (number, p, None if number else arrays_of(kind, p.n, numbers))
+
+
+# ---- The opening program
+
+
+def open_both(data):
+    """(number, message) for an input of a private file and directly after it a sealed file."""
+    number, p = call_read_head(PRIVATE_FILE, data)
+    if number:
+        return (number, None)
+    end = file_length(PRIVATE_FILE, p.n)
+    number, p, key = read_file(PRIVATE_FILE, data[:end])
+    if number:
+        return (number, None)
+    number, sealed_p, sealed = read_file(SEALED_FILE, data[end:])
+    if number:
+        return (number, None)
+    f, f2, fq, _ = key
+    number = first([(20, lambda: p.numbers() != sealed_p.numbers())] + inverse_checks(p, f, f2, fq))
+    if number:
+        return (number, None)
+    return call_open(p, f, f2, sealed[0], message_length(p.n))
+
+
+def open_files(data):
+    """The line that the program prints for this input, as bytes."""
+    number, message = open_both(data)
+    text = "-" if number else message.hex().upper()
+    return f"{number} {text}\n".encode()
+
+
+LONGEST_LINE = len("0 ") + 2 * message_length(1024) + len("\n")
+
+
+def call_open_files(data, room):
+    number = first([(7, lambda: room != LONGEST_LINE)])
+    return (number, None if number else open_files(data))

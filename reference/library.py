@@ -27,6 +27,10 @@ ARGUMENTS = {
     "etru_open": PARAMETERS + 3 * NUMBERS + BYTES,
     "etru_pack": [U32] + BYTES + NUMBERS,
     "etru_unpack": [U32] + NUMBERS + BYTES,
+    "etru_read_head": [U32] + BYTES + [ctypes.POINTER(number_type) for number_type in PARAMETERS],
+    "etru_read": [U32] + BYTES + NUMBERS,
+    "etru_write": [U32] + PARAMETERS + NUMBERS + BYTES,
+    "etru_open_files": 2 * BYTES + [ctypes.POINTER(ctypes.c_size_t)],
 }
 
 
@@ -46,16 +50,25 @@ def load():
 
 def lent(kind, numbers):
     """An array of these numbers; an empty one keeps a place, so that its address is valid."""
+    if kind is U8:
+        # at once, as a file may be long
+        return (U8 * max(len(numbers), 1)).from_buffer_copy(bytes(numbers) or bytes(1))
     return (kind * max(len(numbers), 1))(*numbers)
 
 
-def call(function, head, inputs, output):
-    """Lend the inputs and the output, and return the number and the output as it is afterwards."""
+def with_slices(function, head, arrays):
+    """The arguments of a call: the head, then each array with its count."""
     arguments = list(head)
-    for numbers in inputs + [output]:
+    for numbers in arrays:
         kind = function.argtypes[len(arguments)]._type_
         arguments += [lent(kind, numbers), len(numbers)]
-    number = function(*arguments)
+    return arguments
+
+
+def call(function, head, inputs, output, after=()):
+    """Lend the inputs, the output and what comes after it; return the number and the output as it is afterwards."""
+    arguments = with_slices(function, head, inputs + [output])
+    number = function(*arguments, *after)
     return (number, arguments[-2][: len(output)])
 
 
@@ -97,3 +110,22 @@ class Library:
 
     def unpack(self, n, m, before):
         return call(self.library.etru_unpack, (n,), [m], before)
+
+    def read_head(self, kind, file, before):
+        function = self.library.etru_read_head
+        arguments = with_slices(function, (kind,), [file])
+        outputs = [number_type(value) for number_type, value in zip(PARAMETERS, before)]
+        number = function(*arguments, *map(ctypes.byref, outputs))
+        return (number, tuple(output.value for output in outputs))
+
+    def read(self, kind, file, before):
+        return call(self.library.etru_read, (kind,), [file], before)
+
+    def write(self, kind, n, q, s, t, numbers, before):
+        return call(self.library.etru_write, (kind, n, *q, s, t), [numbers], before)
+
+    def open_files(self, data, before, used_before):
+        """Returns the number, the line's room and the length used."""
+        used = ctypes.c_size_t(used_before)
+        number, line = call(self.library.etru_open_files, (), [data], before, [ctypes.byref(used)])
+        return (number, line, used.value)

@@ -9,6 +9,7 @@ ghost use Rattle.parameters.specs.Sets.{set, parameters, made};
 ghost use Rattle.packing.specs.Calls.{packing, unpacking};
 ghost use Rattle.etru.specs.Calls.{convolving, keyCheck, sealing, opening};
 ghost use Rattle.files.specs.Calls.{readingHead, reading, writing};
+ghost use Rattle.opening.specs.Program.{lineWriting, lineLength};
 use eisenstein::Reduced;
 use parameters::Made;
 use parameters::Parameters;
@@ -215,4 +216,12 @@ pub extern "C" fn etru_write(
 {
     let p = Parameters { n, c, d, s, t };
     files::write(kind, p, numbers, file).number()
+}
+
+// The line that the opening program prints for its input, to the front of line, and its length to used. Any input has its line, so 7 for a line that is not lent with 515 bytes is the only refusal.
+#[no_mangle]
+pub extern "C" fn etru_open_files(input: &[u8], line: &mut [u8], used: &mut usize) -> u32
+    ensures { λ r. ⌜ (r ≡ number (lineWriting (now (input .entry)) (now (line .entry)))) × (now (line .exit) ≡ written (lineWriting (now (input .entry)) (now (line .entry))) (now (line .entry))) × (now (used .exit) ≡ written (lineLength (now (input .entry)) (length (now (line .entry)))) (now (used .entry))) ⌝ }
+{
+    opening::open_files(input, line, used).number()
 }

@@ -1,26 +1,15 @@
 -- `open_files` meets its contract.
-use mathlib.Core.Path.{_≡_, sym, _∙_, ap}
-use mathlib.Core.List.{List, [], _++_}
+use mathlib.Core.Path.{sym, _∙_, ap}
+use mathlib.Core.List.{List, _++_}
 use Prim.Native.Nat.{ℕ}
 use borrow.Author.Needs.{needs}
-use borrow.Author.Tests.{ne-eqb}
 use denote.Ref.{now}
-use lib.Dec.{eqb}
 use lib.ListN.{length, drop}
-use mir.Facts.{yes-eqb}
-use Rattle.refusals.specs.Outcomes.{Outcome, done, refused, outcome, number, written}
-use Rattle.refusals.proofs.Checks.{fails-refused, holds-passed, none-left}
-use Rattle.opening.specs.Program.{openingLine, lineChecks, lineWriting, lineLength}
+use Rattle.refusals.specs.Outcomes.{Outcome, number, written}
+use Rattle.opening.specs.Program.{openingLine, lineWriting, lineLength}
+use Rattle.opening.proofs.LineRoom.{room-wrong, room-right}
 use Rattle.opening.proofs.open_files.Statement.{statement}
 use Rattle.opening.proofs.open_files.Tie as tie
-
-too-long : {A : Type 0} (n : ℕ) (a : A) → (n ≡ 515 → ⊥) → outcome (lineChecks n) a ≡ refused 7
-unfolding lineChecks
-too-long n a h = fails-refused 7 (eqb n 515) [] a (ne-eqb n 515 h)
-
-right : {A : Type 0} (n : ℕ) (a : A) → n ≡ 515 → outcome (lineChecks n) a ≡ done a
-unfolding lineChecks
-right n a e = holds-passed 7 (eqb n 515) [] a (yes-eqb e) ∙ none-left a
 
 abbrev line : tie.Start → List ℕ
 line s = openingLine (s .args .input .now)
@@ -35,8 +24,8 @@ open-files-spec =
     (tie.spec
     (λ c.
     let s = c .before .before .before in
-    let o = too-long (length (s .args .line .now)) (value-of s) (c .if1 .taken) in
-    let u = too-long (length (s .args .line .now)) (length (line s)) (c .if1 .taken) in (
+    let o = room-wrong (length (s .args .line .now)) (value-of s) (c .if1 .taken) in
+    let u = room-wrong (length (s .args .line .now)) (length (line s)) (c .if1 .taken) in (
       sym (ap number o),
       sym (ap (λ (x : Outcome (List ℕ)). written x (now (s .args .line))) o),
       sym (ap (λ (x : Outcome ℕ). written x (now (s .args .used))) u),
@@ -47,8 +36,8 @@ open-files-spec =
     let w = c .before .before in
     let s = w .before .before .before .before .before in
     let n = w .before .before .if1 .left in
-    let o = right (length (s .args .line .now)) (value-of s) n in
-    let u = right (length (s .args .line .now)) (length (line s)) n in (
+    let o = room-right (length (s .args .line .now)) (value-of s) n in
+    let u = room-right (length (s .args .line .now)) (length (line s)) n in (
       sym (ap number o),
       w .write-line .ensures .1 ∙ ap (λ (k : ℕ). line s ++ drop k (s .args .line .now)) (w .write-line .ensures .0) ∙ sym (ap (λ (x : Outcome (List ℕ)). written x (now (s .args .line))) o),
       w .write-line .ensures .0 ∙ sym (ap (λ (x : Outcome ℕ). written x (now (s .args .used))) u),
