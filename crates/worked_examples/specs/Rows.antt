@@ -1,14 +1,17 @@
--- Document 01, 'Small keys and remainders': the lines marked ◆, as rows under one statement.
+-- Document 01, 'Small keys and remainders': the lines marked ◆, and those of its file and the program, as rows under one statement.
 use mathlib.Core.Path.{_≡_}
-use mathlib.Core.List.{List, [], _∷_}
+use mathlib.Core.List.{List, [], _∷_, _++_}
 use Prim.Native.Nat.{ℕ, _*_}
 use lib.IntN.{ℤ, pos, negsuc}
+use lib.ListN.{length}
 use Rattle.refusals.specs.Outcomes.{number, done}
 use Rattle.eisenstein.specs.Values.{ℤ[ω], value, norm}
 use Rattle.eisenstein.specs.Reduction.{Remainder, mod2}
 use Rattle.parameters.specs.Sets.{ParameterSet, set, bound, parameters}
 use Rattle.packing.specs.Messages.{messageBytes}
 use Rattle.etru.specs.Calls.{keyCheck, sealing, opening}
+use Rattle.files.specs.Calls.{reading, writing}
+use Rattle.opening.specs.Program.{openingLine}
 
 pub data Row : Type 0 where
   remainder : (q x r : ℤ[ω]) → Row  -- x modulo q is r
@@ -19,6 +22,8 @@ pub data Row : Type 0 where
   public-key : ParameterSet → (f F2 Fq g h : List ℤ) → Row
   seals : ParameterSet → (h φ : List ℤ) → (message : List ℕ) → (e : List ℤ) → Row
   opens : ParameterSet → (f F2 e : List ℤ) → (message : List ℕ) → Row
+  stored : ℕ → ParameterSet → (numbers : List ℤ) → (file : List ℕ) → Row  -- a file of a kind, written and read
+  prints : (input line : List ℕ) → Row
 
 abbrev pub Holds : Row → Type 0
 Holds (remainder q x r) = Remainder q x r
@@ -29,6 +34,8 @@ Holds (bound-is p n) = bound p ≡ n
 Holds (public-key p f F2 Fq g h) = keyCheck p f F2 Fq g (2 * p .N) ≡ done h
 Holds (seals p h φ message e) = sealing p h φ message (2 * p .N) ≡ done e
 Holds (opens p f F2 e message) = opening p f F2 e (messageBytes (p .N)) ≡ done message
+Holds (stored kind p numbers file) = (writing kind p numbers (length file) ≡ done file) × (reading kind file (length numbers) ≡ done numbers)
+Holds (prints input line) = openingLine input ≡ line
 
 abbrev pub All : List Row → Type 0
 All [] = Unit {0}
@@ -46,6 +53,19 @@ triple = pos 1 ∷ pos 0 ∷ pos 0 ∷ pos 1 ∷ negsuc 0 ∷ negsuc 0 ∷ []
 
 abbrev sealed : List ℤ
 sealed = pos 7 ∷ pos 0 ∷ negsuc 0 ∷ pos 5 ∷ negsuc 5 ∷ negsuc 5 ∷ []
+
+-- "Its file, hexadecimal: 45495A 0001 03 0003 000F 0000 0003 0001 0007 0000 FFFF 0005 FFFA FFFA."
+abbrev sealed-file : List ℕ
+sealed-file =
+    0x45 ∷ 0x49 ∷ 0x5a ∷ 0x00 ∷ 0x01 ∷ 0x03 ∷ 0x00 ∷ 0x03 ∷ 0x00 ∷ 0x0f ∷ 0x00 ∷ 0x00 ∷ 0x00 ∷ 0x03 ∷ 0x00 ∷ 0x01 ∷ 0x00 ∷ 0x07 ∷ 0x00 ∷ 0x00 ∷ 0xff ∷ 0xff ∷ 0x00 ∷ 0x05 ∷ 0xff ∷ 0xfa ∷ 0xff ∷ 0xfa ∷ []
+
+-- f = F2 = Fq = 1 as bytes, and the 64-byte file of the key
+abbrev one-bytes : List ℕ
+one-bytes = 0 ∷ 1 ∷ 0 ∷ 0 ∷ 0 ∷ 0 ∷ 0 ∷ 0 ∷ 0 ∷ 0 ∷ 0 ∷ 0 ∷ []
+
+abbrev key-file : List ℕ
+key-file =
+    0x45 ∷ 0x49 ∷ 0x5a ∷ 0x00 ∷ 0x01 ∷ 0x02 ∷ 0x00 ∷ 0x03 ∷ 0x00 ∷ 0x0f ∷ 0x00 ∷ 0x00 ∷ 0x00 ∷ 0x03 ∷ 0x00 ∷ 0x01 ∷ one-bytes ++ (one-bytes ++ (one-bytes ++ (0x00 ∷ 0x01 ∷ 0x00 ∷ 0x00 ∷ 0x00 ∷ 0x00 ∷ 0x00 ∷ 0x01 ∷ 0xff ∷ 0xff ∷ 0xff ∷ 0xff ∷ [])))
 
 abbrev pub rows : List Row
 rows =
@@ -80,6 +100,10 @@ rows =
     ∷ opens small one one sealed (0xb0 ∷ [])
     -- "The same sealed array opens to B0 with f having (0,1) at X and F2 having (−1,−1) at X²."
     ∷ opens small (pos 0 ∷ pos 0 ∷ pos 0 ∷ pos 1 ∷ pos 0 ∷ pos 0 ∷ []) (pos 0 ∷ pos 0 ∷ pos 0 ∷ pos 0 ∷ negsuc 0 ∷ negsuc 0 ∷ []) sealed (0xb0 ∷ [])
+    -- "Its file"; "The program, given the 64-byte file of the key with f = 1 and this one, prints `0 B0`."
+    ∷ stored 3 small sealed sealed-file
+    ∷ stored 2 small (one ++ (one ++ (one ++ triple))) key-file
+    ∷ prints (key-file ++ sealed-file) (0x30 ∷ 0x20 ∷ 0x42 ∷ 0x30 ∷ 0x0a ∷ [])
     ∷ []
 
 abbrev pub Rows-hold : Type 0
