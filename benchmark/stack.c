@@ -15,10 +15,21 @@ uint32_t etru_seal(uint32_t n, int32_t c, int32_t d, uint32_t s, uint32_t t, con
 uint32_t etru_open(uint32_t n, int32_t c, int32_t d, uint32_t s, uint32_t t, const int32_t *f, size_t f_count, const int32_t *f2, size_t f2_count, const int32_t *e, size_t e_count, uint8_t *message, size_t message_count);
 uint32_t etru_pack(uint32_t n, const uint8_t *message, size_t message_count, int32_t *m, size_t m_count);
 uint32_t etru_unpack(uint32_t n, const int32_t *m, size_t m_count, uint8_t *message, size_t message_count);
+uint32_t etru_read_head(uint32_t kind, const uint8_t *file, size_t file_count, uint32_t *n, int32_t *c, int32_t *d, uint32_t *s, uint32_t *t);
+uint32_t etru_read(uint32_t kind, const uint8_t *file, size_t file_count, int32_t *numbers, size_t numbers_count);
+uint32_t etru_write(uint32_t kind, uint32_t n, int32_t c, int32_t d, uint32_t s, uint32_t t, const int32_t *numbers, size_t numbers_count, uint8_t *file, size_t file_count);
+uint32_t etru_open_files(const uint8_t *input, size_t input_count, uint8_t *line, size_t line_count, size_t *used);
 
 // f = F2 = Fq = 1 and g = φ = 1 + ωX + (−1 − ω)X², as in document 01's small key, with q = 15.
 static int32_t one[2 * N] = {1}, g[2 * N] = {1, 0, 0, 1, -1, -1}, h[2 * N], e[2 * N], out[2 * N];
 static uint8_t message[N / 4], opened[N / 4];
+
+// The numbers of the private file, and the private file with the sealed file directly after it.
+#define PRIVATE (16 + 16 * N)
+#define SEALED (16 + 4 * N)
+static int32_t key[8 * N], numbers[8 * N];
+static uint8_t files[PRIVATE + SEALED], line[515];
+static size_t line_bytes;
 
 static uint32_t convolve(void) { return etru_convolve(N, 15, 0, 3, 1, one, 2 * N, g, 2 * N, out, 2 * N); }
 static uint32_t check_key(void) { return etru_check_key(N, 15, 0, 3, 1, one, 2 * N, one, 2 * N, one, 2 * N, g, 2 * N, h, 2 * N); }
@@ -26,7 +37,17 @@ static uint32_t seal(void) { return etru_seal(N, 15, 0, 3, 1, h, 2 * N, g, 2 * N
 static uint32_t open_sealed(void) { return etru_open(N, 15, 0, 3, 1, one, 2 * N, one, 2 * N, e, 2 * N, opened, N / 4); }
 static uint32_t pack(void) { return etru_pack(N, message, N / 4, out, 2 * N); }
 static uint32_t unpack(void) { return etru_unpack(N, out, 2 * N, opened, N / 4); }
+static uint32_t write_private(void) { return etru_write(2, N, 15, 0, 3, 1, key, 8 * N, files, PRIVATE); }
+static uint32_t write_sealed(void) { return etru_write(3, N, 15, 0, 3, 1, e, 2 * N, files + PRIVATE, SEALED); }
+static uint32_t read_private(void) { return etru_read(2, files, PRIVATE, numbers, 8 * N); }
+static uint32_t open_files(void) { return etru_open_files(files, sizeof files, line, sizeof line, &line_bytes); }
 static uint32_t nothing(void) { return 0; }
+
+static uint32_t read_head(void) {
+    uint32_t n, s, t;
+    int32_t c, d;
+    return etru_read_head(2, files, PRIVATE, &n, &c, &d, &s, &t);
+}
 
 static uint32_t (*call)(void);
 static uint32_t number;
@@ -60,15 +81,20 @@ int main(void) {
     static const struct {
         const char *name;
         uint32_t (*function)(void);
-    } calls[] = {{"etru_convolve", convolve}, {"etru_check_key", check_key}, {"etru_seal", seal}, {"etru_open", open_sealed}, {"etru_pack", pack}, {"etru_unpack", unpack}};
+    } calls[] = {{"etru_convolve", convolve}, {"etru_check_key", check_key}, {"etru_seal", seal}, {"etru_open", open_sealed}, {"etru_pack", pack}, {"etru_unpack", unpack},
+                 {"etru_write, 2", write_private}, {"etru_write, 3", write_sealed}, {"etru_read_head", read_head}, {"etru_read, 2", read_private}, {"etru_open_files", open_files}};
     for (size_t i = 0; i < sizeof message; i++) {
         message[i] = (uint8_t)(i * 37);
     }
+    memcpy(key, one, sizeof one);
+    memcpy(key + 2 * N, one, sizeof one);
+    memcpy(key + 4 * N, one, sizeof one);
+    memcpy(key + 6 * N, g, sizeof g);
     size_t base = used(nothing), largest = 0;
     for (size_t i = 0; i < sizeof calls / sizeof calls[0]; i++) {
         size_t bytes = used(calls[i].function) - base;
         largest = bytes > largest ? bytes : largest;
         printf("%-15s %6zu bytes of stack\n", calls[i].name, bytes);
     }
-    return memcmp(message, opened, sizeof message) != 0 || largest > 64 * 1024;
+    return memcmp(message, opened, sizeof message) != 0 || memcmp(key, numbers, sizeof key) != 0 || line_bytes != 515 || largest > 128 * 1024;
 }
