@@ -10,9 +10,7 @@
 #include <string.h>
 #include <time.h>
 
-uint32_t etru_convolve(uint32_t n, int32_t c, int32_t d, uint32_t s, uint32_t t, const int32_t *x, size_t x_count,
-                       const int32_t *y, size_t y_count, int32_t *out, size_t out_count);
-uint32_t etru_reduce_q(int64_t a, int64_t b, int32_t c, int32_t d, int32_t *ra, int32_t *rb);
+#include "etru.h"
 
 enum { LARGEST_N = 1024, REPETITIONS = 300 };
 

@@ -5,30 +5,19 @@
 #include <stdlib.h>
 #include <string.h>
 
+#include "etru.h"
+
 #define N 1024
 #define SIZE (256 * 1024)
 #define FILL 0xA5
-
-uint32_t etru_convolve(uint32_t n, int32_t c, int32_t d, uint32_t s, uint32_t t, const int32_t *x, size_t x_count, const int32_t *y, size_t y_count, int32_t *out, size_t out_count);
-uint32_t etru_check_key(uint32_t n, int32_t c, int32_t d, uint32_t s, uint32_t t, const int32_t *f, size_t f_count, const int32_t *f2, size_t f2_count, const int32_t *fq, size_t fq_count, const int32_t *g, size_t g_count, int32_t *h, size_t h_count);
-uint32_t etru_seal(uint32_t n, int32_t c, int32_t d, uint32_t s, uint32_t t, const int32_t *h, size_t h_count, const int32_t *phi, size_t phi_count, const uint8_t *message, size_t message_count, int32_t *e, size_t e_count);
-uint32_t etru_open(uint32_t n, int32_t c, int32_t d, uint32_t s, uint32_t t, const int32_t *f, size_t f_count, const int32_t *f2, size_t f2_count, const int32_t *e, size_t e_count, uint8_t *message, size_t message_count);
-uint32_t etru_pack(uint32_t n, const uint8_t *message, size_t message_count, int32_t *m, size_t m_count);
-uint32_t etru_unpack(uint32_t n, const int32_t *m, size_t m_count, uint8_t *message, size_t message_count);
-uint32_t etru_read_head(uint32_t kind, const uint8_t *file, size_t file_count, uint32_t *n, int32_t *c, int32_t *d, uint32_t *s, uint32_t *t);
-uint32_t etru_read(uint32_t kind, const uint8_t *file, size_t file_count, int32_t *numbers, size_t numbers_count);
-uint32_t etru_write(uint32_t kind, uint32_t n, int32_t c, int32_t d, uint32_t s, uint32_t t, const int32_t *numbers, size_t numbers_count, uint8_t *file, size_t file_count);
-uint32_t etru_open_files(const uint8_t *input, size_t input_count, uint8_t *line, size_t line_count, size_t *used);
 
 // f = F2 = Fq = 1 and g = φ = 1 + ωX + (−1 − ω)X², as in document 01's small key, with q = 15.
 static int32_t one[2 * N] = {1}, g[2 * N] = {1, 0, 0, 1, -1, -1}, h[2 * N], e[2 * N], out[2 * N];
 static uint8_t message[N / 4], opened[N / 4];
 
 // The numbers of the private file, and the private file with the sealed file directly after it.
-#define PRIVATE (16 + 16 * N)
-#define SEALED (16 + 4 * N)
 static int32_t key[8 * N], numbers[8 * N];
-static uint8_t files[PRIVATE + SEALED], line[515];
+static uint8_t files[ETRU_PRIVATE_FILE_BYTES(N) + ETRU_SEALED_FILE_BYTES(N)], line[ETRU_LINE_BYTES];
 static size_t line_bytes;
 
 static uint32_t convolve(void) { return etru_convolve(N, 15, 0, 3, 1, one, 2 * N, g, 2 * N, out, 2 * N); }
@@ -37,16 +26,16 @@ static uint32_t seal(void) { return etru_seal(N, 15, 0, 3, 1, h, 2 * N, g, 2 * N
 static uint32_t open_sealed(void) { return etru_open(N, 15, 0, 3, 1, one, 2 * N, one, 2 * N, e, 2 * N, opened, N / 4); }
 static uint32_t pack(void) { return etru_pack(N, message, N / 4, out, 2 * N); }
 static uint32_t unpack(void) { return etru_unpack(N, out, 2 * N, opened, N / 4); }
-static uint32_t write_private(void) { return etru_write(2, N, 15, 0, 3, 1, key, 8 * N, files, PRIVATE); }
-static uint32_t write_sealed(void) { return etru_write(3, N, 15, 0, 3, 1, e, 2 * N, files + PRIVATE, SEALED); }
-static uint32_t read_private(void) { return etru_read(2, files, PRIVATE, numbers, 8 * N); }
+static uint32_t write_private(void) { return etru_write(2, N, 15, 0, 3, 1, key, 8 * N, files, ETRU_PRIVATE_FILE_BYTES(N)); }
+static uint32_t write_sealed(void) { return etru_write(3, N, 15, 0, 3, 1, e, 2 * N, files + ETRU_PRIVATE_FILE_BYTES(N), ETRU_SEALED_FILE_BYTES(N)); }
+static uint32_t read_private(void) { return etru_read(2, files, ETRU_PRIVATE_FILE_BYTES(N), numbers, 8 * N); }
 static uint32_t open_files(void) { return etru_open_files(files, sizeof files, line, sizeof line, &line_bytes); }
 static uint32_t nothing(void) { return 0; }
 
 static uint32_t read_head(void) {
     uint32_t n, s, t;
     int32_t c, d;
-    return etru_read_head(2, files, PRIVATE, &n, &c, &d, &s, &t);
+    return etru_read_head(2, files, ETRU_PRIVATE_FILE_BYTES(N), &n, &c, &d, &s, &t);
 }
 
 static uint32_t (*call)(void);
@@ -96,5 +85,5 @@ int main(void) {
         largest = bytes > largest ? bytes : largest;
         printf("%-15s %6zu bytes of stack\n", calls[i].name, bytes);
     }
-    return memcmp(message, opened, sizeof message) != 0 || memcmp(key, numbers, sizeof key) != 0 || line_bytes != 515 || largest > 128 * 1024;
+    return memcmp(message, opened, sizeof message) != 0 || memcmp(key, numbers, sizeof key) != 0 || line_bytes != ETRU_LINE_BYTES || largest > 128 * 1024;
 }

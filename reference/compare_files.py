@@ -454,6 +454,12 @@ def run_program(data):
     return (done.returncode, done.stdout, done.stderr)
 
 
+def run_in_shell(data, redirection):
+    """The program with its input or output redirected."""
+    done = subprocess.run(["sh", "-c", f'exec "$0" {redirection}', PROGRAM], input=data, capture_output=True)
+    return (done.returncode, done.stdout, done.stderr)
+
+
 def run_from_file(data):
     with tempfile.TemporaryFile() as file:
         file.write(data)
@@ -489,17 +495,20 @@ def one_input(results, library, rng, what, data, due):
 
 
 def other_ways(results, library, rng, files):
-    """Input in pieces and from a file, and the call with a wrong room."""
+    """Input in pieces and from a file, reads and writes that fail, and the call with a wrong room."""
     data, line = files.input().bytes(), opened(files.message)
     for size in (1, 7, 16, len(data) - 1):
         results.expect(f"the program, {size} bytes at a time", run_in_pieces(data, size), (0, line, b""))
     results.expect("the program, from a file", run_from_file(data), (0, line, b""))
     results.expect("the program, from an empty file", run_from_file(b""), (0, refused(16), b""))
+    results.expect("the program, input closed", run_in_shell(data, "<&-"), (0, b"", b""))
+    results.expect("the program, input a folder", run_in_shell(data, "< /"), (0, b"", b""))
+    results.expect("the program, output closed", run_in_shell(data, ">&-"), (0, b"", b""))
+    results.expect("the program, output full", run_in_shell(data, "> /dev/full"), (0, b"", b""))
     for given in (data, data[:-1], b"", bytes(MEGABYTE)):
         for room in (0, 1, 5, len(line), 514, 516, 517, 1030):
             before, used = list(rng.randbytes(room)), rng.randrange(2**64)
             results.expect(f"open_files, room {room}", library.open_files(given, before, used), (7, before, used))
-            results.expect(f"open_files, room {room}, reference", reference.call_open_files(given, room), (7, None))
 
 
 def program(results, library, rng, all_files):

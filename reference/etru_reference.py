@@ -453,6 +453,7 @@ def open_files(data):
     return f"{number} {text}\n".encode()
 
 
+# The line's room is not document 01's: the call refuses any other than the longest line's (docs/DECISIONS.md, 34).
 LONGEST_LINE = len("0 ") + 2 * message_length(1024) + len("\n")
 
 

@@ -4,7 +4,7 @@ use mathlib.Core.Logic.{_≢_}
 use Prim.Native.Nat.{ℕ, _+_, _*_, _<_}
 use lib.Dec.{T}
 use lib.IntN.{pos}
-use Rattle.eisenstein.specs.Values.{ℤ[ω], value, 𝟘, norm, _+ω_, Congruent}
+use Rattle.eisenstein.specs.Values.{value, 𝟘, norm, _+ω_, Congruent}
 use Rattle.parameters.specs.Sets.{ParameterSet}
 use Rattle.polynomials.specs.Polynomials.{Polynomial, convolution, one, unitsOnly, reduced2}
 use Rattle.etru.specs.Scheme.{opened}

@@ -1,6 +1,6 @@
 // The scheme: convolution modulo q, key check, sealing and opening.
 // Each call ends with `Done`, or with document 01's first refusal that applies, and then its output is as it came.
-// At N = 1,024 `open` takes 17 KiB of stack, and each other call less than 1 KiB.
+// At every N `open` takes 17 KiB of stack, and each other call less than 1 KiB.
 ghost use mathlib.Core.Path.{_≡_};
 ghost use lib.ListN.{length};
 ghost use Rattle.refusals.specs.Outcomes.{number, written};

@@ -1,5 +1,5 @@
 // The interface for C. Each function returns document 01's refusal number, 0 if nothing is refused, and writes to its outputs only then.
-// At N = 1,024 `etru_open_files` takes 81 KiB of stack, `etru_read` 33 KiB, `etru_open` 17 KiB, and each other function less than 1 KiB.
+// At every N `etru_open_files` takes 81 KiB of stack, `etru_read` 33 KiB, `etru_open` 17 KiB, and each other function less than 1 KiB.
 ghost use mathlib.Core.Path.{_≡_};
 ghost use lib.ListN.{length};
 ghost use Rattle.refusals.specs.Outcomes.{number, written};

@@ -4,8 +4,9 @@
 // - Input: it is read to its end. If a read fails, nothing is printed: what was read may be a part of the input, and document 01 has no line for it.
 // - Output: if it is closed, or a write fails, there is nobody to tell, and the program ends.
 ghost use mathlib.Core.Path.{_≡_};
-ghost use Prim.Native.Nat.{_≤_};
+ghost use Prim.Native.Nat.{_+_, _-_, _≤_};
 ghost use lib.ListN.{length};
+ghost use Rattle.io.specs.Counts.{clamped};
 use libc::STDIN_FILENO;
 use libc::STDOUT_FILENO;
 
@@ -35,7 +36,7 @@ fn read_some(buffer: &mut [u8], at: usize) -> isize {
 // How far the buffer is filled after such a read.
 fn filled(buffer: &[u8], at: usize, got: isize) -> usize
     requires { ⌜ at ≤ length (now buffer) ⌝ }
-    ensures { λ r. ⌜ r ≤ length (now (buffer .entry)) ⌝ }
+    ensures { λ r. ⌜ (r ≤ length (now (buffer .entry))) × (r ≡ at + clamped got (length (now (buffer .entry)) - at)) ⌝ }
 {
     let all = buffer.len();
     at + io::count(got, &buffer[at..all])

@@ -1,12 +1,11 @@
 -- How long a file can be: at most four arrays of at most 1,024 coefficients.
-use mathlib.Core.Path.{_≡_, subst, sym}
+use mathlib.Core.Path.{subst}
 use Prim.Native.Nat.{ℕ, suc, _+_, _*_, _≤_, _<_}
 use native.Mathlib.Omega.{arith}
 use native.Mathlib.Nat.{mul-le-mul, mul-le-mul-left, mul-suc}
-use Rattle.files.specs.Files.{numberCount}
-use Rattle.files.proofs.ArraysOfKinds.{at-most-four}
 use lib.ListN.{length}
-use Rattle.files.specs.Files.{arraysOf}
+use Rattle.files.specs.Files.{arraysOf, numberCount}
+use Rattle.files.proofs.ArraysOfKinds.{at-most-four}
 
 pub four-arrays : (n k : ℕ) → n ≤ 1024 → k ≤ 4 → 4 * n * k ≤ 16384
 four-arrays n k h l = mul-le-mul {n₁ = 4 * n} {n₂ = 4096} (omega arith) l

@@ -60,9 +60,6 @@ numbers-length [] = refl
 numbers-length (high ∷ []) = refl
 numbers-length (high ∷ low ∷ l) = omega (arith, numbers-length l)
 
-pub numbers-length-even : (l : List ℕ) → length l % 2 ≡ 0 → 2 * length (numbersFrom l) ≡ length l
-numbers-length-even l e = omega (arith, numbers-length l)
-
 -- ---- both ways
 
 -- each number of a list fits in 16 bits

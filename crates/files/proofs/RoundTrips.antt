@@ -166,7 +166,7 @@ module _ (file : List ℕ) (bytes : Bytes file) where
   read-file kind h e = ap₂ _++_ (read-head kind h) (read-rest e) ∙ take-append-drop 16 file
 
 pub writing-undoes-reading : Writing-undoes-reading
-unfolding reading readingChecks writing writingChecks
+unfolding readingHead reading readingChecks writing writingChecks
 writing-undoes-reading kind file room l bytes e =
     let d = done-parts (readingChecks kind file room) (numbersFrom (drop 16 file)) l e in
     let k = done-all (headChecks kind file) _ _ _ (d .0) in
@@ -174,8 +174,10 @@ writing-undoes-reading kind file room l bytes e =
     let m = done-all (parameterChecks (headOf file)) _ _ _ (k .1) in
     let c = contents-passed kind (headOf file) (numbersFrom (drop 16 file)) room (length file) (m .1) in
     let r : room ≡ length (numbersFrom (drop 16 file)) = omega (arith, numbers-length (drop 16 file), length-drop 16 file, c .file-is, c .numbers-are, file-length kind (headOf file .N)) in
+    let w =
     subst (λ (x : List ℤ). writing kind (headOf file) x (length file) ≡ done file) (d .1)
     (passed 19 _ _ (h .known)
     ∙ passed-all (parameterChecks (headOf file)) _ _ (m .0)
     ∙ done-with (contentChecks kind (headOf file) (numbersFrom (drop 16 file)) (length (numbersFrom (drop 16 file))) (length file)) _ (rw r at (m .1))
-    ∙ ap done (read-file file bytes kind h (omega (arith, c .file-is, file-length kind (headOf file .N)))))
+    ∙ ap done (read-file file bytes kind h (omega (arith, c .file-is, file-length kind (headOf file .N))))) in
+    (passed-all (headChecks kind file) (parameterChecks (headOf file)) (headOf file) (k .0) ∙ done-with (parameterChecks (headOf file)) (headOf file) (m .0), w)

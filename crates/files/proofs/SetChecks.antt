@@ -1,16 +1,15 @@
 -- The checks of a file's arrays, array by array.
-use mathlib.Core.Path.{_≡_, refl, sym, _∙_, ap, ap₂}
+use mathlib.Core.Path.{_≡_, sym, _∙_, ap, ap₂}
 use mathlib.Core.Bool.{not}
 use mathlib.Core.List.{List, [], _∷_}
-use Prim.Native.Nat.{ℕ, suc, _+_, _*_, _≤_, _<_}
-use native.Mathlib.Omega.{arith}
+use Prim.Native.Nat.{ℕ, suc, _+_, _*_, _<_}
 use native.Mathlib.Nat.{mul-zero, mul-suc}
 use native.Mathlib.Numerals.{add-one}
 use lib.IntN.{ℤ}
 use lib.ListN.{length, getD, take, drop}
 use lib.Seq.{drop-cons, drop-drop, drop-length}
 use mir.Facts.{yes-eqb}
-use Rattle.refusals.specs.Outcomes.{Check, Outcome, _if_, done, refused, outcome}
+use Rattle.refusals.specs.Outcomes.{Check, _if_, done, refused, outcome}
 use Rattle.refusals.proofs.Checks.{passed-all, refused-first, holds-passed, none-left}
 use Rattle.parameters.specs.Sets.{ParameterSet, parameterChecks}
 use Rattle.etru.specs.declared.ArraySet.{ArraySet}

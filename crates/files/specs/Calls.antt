@@ -18,7 +18,7 @@ marked file = eqb (getD file 0 0) 69 && (eqb (getD file 1 0) 73 && eqb (getD fil
 unfoldable pub versionOne : List ℕ → Bool
 versionOne file = eqb (getD file 3 0) 0 && eqb (getD file 4 0) 1
 
--- "File head: 16, 17, 18, 19."
+-- The refusals of a head, in order.
 unfoldable pub headChecks : ℕ → List ℕ → List Check
 headChecks kind file =
     16 if ltb (length file) 16

@@ -15,10 +15,10 @@ abbrev pub Reading-undoes-writing : Type 0
 Reading-undoes-writing =
     (kind : ℕ) (p : ParameterSet) (numbers : List ℤ) (room : ℕ) (file : List ℕ) → writing kind p numbers room ≡ done file → (readingHead kind file ≡ done p) × (reading kind file (length numbers) ≡ done numbers)
 
--- What is read without refusal writes back to the same bytes.
+-- What is read without refusal writes back to the same bytes, with the parameters of its head.
 abbrev pub Writing-undoes-reading : Type 0
 Writing-undoes-reading =
-    (kind : ℕ) (file : List ℕ) (room : ℕ) (numbers : List ℤ) → Bytes file → reading kind file room ≡ done numbers → writing kind (headOf file) numbers (length file) ≡ done file
+    (kind : ℕ) (file : List ℕ) (room : ℕ) (numbers : List ℤ) → Bytes file → reading kind file room ≡ done numbers → (readingHead kind file ≡ done (headOf file)) × (writing kind (headOf file) numbers (length file) ≡ done file)
 
 -- What is written are bytes.
 abbrev pub Written-bytes : Type 0

@@ -1,6 +1,6 @@
 // Files: reading a head, reading a file of a wanted kind, and writing one.
 // Each call ends with a result, or with document 01's first refusal that applies, and then its output is as it came.
-// At N = 1,024 `read` takes 33 KiB of stack, and each other call less than 1 KiB.
+// At every N `read` takes 33 KiB of stack, and each other call less than 1 KiB.
 ghost use mathlib.Core.Path.{_≡_};
 ghost use lib.ListN.{length};
 ghost use Rattle.refusals.specs.Outcomes.{number, written};

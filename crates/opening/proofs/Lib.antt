@@ -1,3 +1,4 @@
+pub mod FirstBytes
 pub mod InputParts
 pub mod JoinedArrays
 pub mod LineRoom

@@ -5,7 +5,7 @@ use Prim.Native.Nat.{ℕ, _≤_}
 use native.Mathlib.Omega.{arith}
 use borrow.Author.Tests.{ne-eqb}
 use lib.Dec.{eqb}
-use lib.ListN.{length, drop, length-append, length-drop}
+use lib.ListN.{length, drop, length-append}
 use mir.Facts.{yes-eqb}
 use Rattle.refusals.specs.Outcomes.{Outcome, done, refused, outcome, written}
 use Rattle.refusals.proofs.Checks.{fails-refused, holds-passed, none-left}

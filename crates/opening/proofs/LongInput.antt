@@ -4,19 +4,19 @@ use mathlib.Core.Bool.{_&&_}
 use mathlib.Core.List.{List, _++_, append-assoc}
 use Prim.Native.Nat.{ℕ, _≤_, _<_}
 use native.Mathlib.Omega.{arith}
-use native.Mathlib.Decide.{decLe}
-use borrow.Author.Tests.{le-ltb, ne-eqb}
-use lib.Dec.{T, ltb, eqb, lit<}
-use lib.ListN.{length, take, drop, getD, length-take, length-drop, length-append, take-append-drop}
-use lib.Seq.{getD-take, take-take, take-all, length-take-le, take-append-le, drop-append-le}
+use borrow.Author.Tests.{ne-eqb}
+use lib.Dec.{eqb}
+use lib.ListN.{length, take, drop, length-drop, length-append, take-append-drop}
+use lib.Seq.{take-take, length-take-le, take-append-le, drop-append-le}
 use Rattle.refusals.specs.Outcomes.{Check, Outcome, done, refused, outcome}
 use Rattle.refusals.proofs.Checks.{passed-all, refused-first, fails-refused}
 use Rattle.parameters.specs.Sets.{parameterChecks}
 use Rattle.etru.proofs.AcceptedParameters.{accepted-parameters}
-use Rattle.files.specs.Files.{arraysOf, numberCount, fileLength, unsignedAt, signedAt, headOf}
-use Rattle.files.specs.Calls.{marked, versionOne, headChecks, contentChecks, readingChecks}
+use Rattle.files.specs.Files.{arraysOf, numberCount, fileLength, headOf}
+use Rattle.files.specs.Calls.{headChecks, contentChecks, readingChecks}
 use Rattle.files.proofs.Passed.{file-length}
 use Rattle.files.proofs.Bounds.{numbers-few}
+use Rattle.opening.proofs.FirstBytes.{head-of-start, checks-of-start}
 use Rattle.opening.specs.Lines.{lineOf}
 use Rattle.opening.specs.Program.{firstLength, fileChecks, numbersOf, openingPair, openingFiles, openingLine}
 use Rattle.opening.specs.Promises.{Long-input-line}
@@ -29,27 +29,6 @@ same-first cs ds ds′ a a′ h = go (outcome cs (tt {0})) refl
     go : (o : Outcome (Unit {0})) → outcome cs (tt {0}) ≡ o → outcome (cs ++ ds) a ≡ outcome (cs ++ ds′) a′
     go (done _) e = passed-all cs ds a e ∙ h e ∙ sym (passed-all cs ds′ a′ e)
     go (refused n) e = refused-first cs ds a n e ∙ sym (refused-first cs ds′ a′ n e)
-
--- ---- a head is of the first 16 bytes
-
-module _ (file : List ℕ) where
-  byte-of-start : (k : ℕ) → T (ltb k 16) → getD (take 16 file) k 0 ≡ getD file k 0
-  byte-of-start k h = getD-take 16 file k 0 (lit< h)
-
-  length-of-start : ltb (length (take 16 file)) 16 ≡ ltb (length file) 16
-  length-of-start = go (decLe 16 (length file))
-    where
-      go : Dec (16 ≤ length file) → ltb (length (take 16 file)) 16 ≡ ltb (length file) 16
-      go (yes h) = le-ltb (length (take 16 file)) 16 (omega (arith, length-take 16 file)) ∙ sym (le-ltb (length file) 16 h)
-      go (no h) = ap (λ (l : List ℕ). ltb (length l) 16) (take-all 16 file (omega arith))
-
-  head-of-start : headOf (take 16 file) ≡ headOf file
-  unfolding headOf unsignedAt signedAt
-  head-of-start = simp (byte-of-start, tt {0})
-
-  checks-of-start : (kind : ℕ) → headChecks kind (take 16 file) ≡ headChecks kind file
-  unfolding headChecks marked versionOne
-  checks-of-start kind = simp (length-of-start, byte-of-start, tt {0})
 
 -- ---- two files with the same head: they are refused alike, or N is at most 1,024 and the contents decide
 

@@ -1,5 +1,5 @@
 // The opening program's work: from its input to the line that it prints.
-// Any input has its line. At N = 1,024 the work takes 81 KiB of stack.
+// Any input has its line. At every N the work takes 81 KiB of stack.
 ghost use mathlib.Core.Path.{_≡_};
 ghost use mathlib.Core.List.{_++_};
 ghost use lib.ListN.{length, drop};

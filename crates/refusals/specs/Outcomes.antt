@@ -25,7 +25,7 @@ unfoldable pub outcome : {A : Type 0} → List Check → A → Outcome A
 outcome [] a = done a
 outcome (c ∷ cs) a = unless (c .applies) (c .number) (outcome cs a)
 
--- "The refusal number (0 if none)."
+-- The refusal number, 0 if none.
 abbrev pub number : {A : Type 0} → Outcome A → ℕ
 number (done a) = 0
 number (refused n) = n

@@ -22,6 +22,6 @@ checkedSealing p f F2 Fq g φ message roomH roomE = next (keyCheck p f F2 Fq g r
 unfoldable pub roundTrip : ParameterSet → (f F2 Fq g φ : List ℤ) → List ℕ → (roomH roomE roomM : ℕ) → Outcome (List ℕ)
 roundTrip p f F2 Fq g φ message roomH roomE roomM = next (checkedSealing p f F2 Fq g φ message roomH roomE) (λ e. opening p f F2 e roomM)
 
--- "With any accepted key, any messages, any ephemerals: nothing is refused, opening gives exactly the message sealed."
+-- Demand 3: with any accepted key, any message and any ephemeral nothing is refused, and opening gives exactly the message sealed.
 abbrev pub Round-trip-returns : Type 0
 Round-trip-returns = (p : ParameterSet) (f F2 Fq g h φ : List ℤ) (message : List ℕ) → AcceptedKey p f F2 Fq g h → Ephemeral p φ → Message p message → roundTrip p f F2 Fq g φ message (2 * p .N) (2 * p .N) (messageBytes (p .N)) ≡ done message

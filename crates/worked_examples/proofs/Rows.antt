@@ -1,11 +1,10 @@
 -- The rows hold: each is computed from the definitions.
-use mathlib.Core.Path.{_≡_, refl, sym, subst}
+use mathlib.Core.Path.{refl, sym, subst}
 use mathlib.Core.Bool.{not}
 use lib.Dec.{T}
-use lib.IntN.{pos, negsuc}
 use mir.Facts.{T-not}
 use Rattle.refusals.specs.Outcomes.{outcome}
-use Rattle.eisenstein.specs.Values.{ℤ[ω], value, 𝟘, norm, same, sameℤ, _+ω_, _-ω_, _*ω_}
+use Rattle.eisenstein.specs.Values.{ℤ[ω], 𝟘, norm, same, sameℤ, _+ω_, _-ω_, _*ω_}
 use Rattle.eisenstein.specs.Reduction.{Remainder, modQ, mod2, bit, cell, corner, better, best}
 use Rattle.eisenstein.specs.Calls.{beyond}
 use Rattle.eisenstein.proofs.Equality.{same-yes, same-true}
@@ -49,7 +48,7 @@ rows-hold = (
                   computed _ _ _ tt tt,
                   (
                     computed _ _ _ tt tt,
-                    (refl, (refl, (refl, (refl, (refl, (refl, (refl, (refl, (refl, (refl, (refl, (refl, (refl, ((refl, refl), ((refl, refl), (refl, tt)))))))))))))))),
+                    (refl, (refl, (refl, (refl, (refl, (refl, (refl, (refl, (refl, (refl, (refl, (refl, (refl, ((refl, refl), ((refl, refl), ((refl, refl), (refl, tt))))))))))))))))),
                   ),
                 ),
               ),

@@ -1,6 +1,6 @@
 -- `read_input` meets its contract. The loop's invariant: the bytes that are filled lie within the buffer.
 use Prim.Native.Nat.{_≤_}
-use mathlib.Core.Path.{_≡_, refl, sym, _∙_}
+use mathlib.Core.Path.{_≡_, refl}
 use native.Mathlib.Omega.{arith}
 use borrow.Author.Needs.{needs}
 use lib.ListN.{length}
@@ -28,6 +28,6 @@ read-input-spec =
     (λ c κs. let x = c .before .before .before .before .buffer .given in search needs)
     (λ c. search needs)
     (λ c. omega (arith, c .before .before .before .before .before .before .before .before .loop-test .taken))
-    (λ c. (c .filled .ensures, search needs))
+    (λ c. (c .filled .ensures .0, search needs))
     (λ c. c .before .loop .inv .1)
     (λ c. tt))

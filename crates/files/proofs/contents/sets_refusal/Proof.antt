@@ -12,7 +12,7 @@ use Rattle.parameters.specs.Sets.{setOf}
 use Rattle.etru.specs.declared.ArraySet.the-variants.{ReducedModuloQ}
 use Rattle.etru.specs.Calls.{arrayCheck}
 use Rattle.etru.proofs.AcceptedParameters.{accepted-parameters}
-use Rattle.files.specs.Files.{arraysOf, numberCount}
+use Rattle.files.specs.Files.{arraysOf}
 use Rattle.files.specs.Calls.{setChecks}
 use Rattle.files.proofs.Bounds.{numbers-few, end-of-array}
 use Rattle.files.proofs.SetChecks.{own, own-check, first-array, array-at, set-at, from-array, array-passed, array-refused, all-arrays-passed}

@@ -1,5 +1,4 @@
 -- `write_head_bytes` meets its contract: the stores are a run from byte 0 on.
-use mathlib.Core.Path.{refl, sym}
 use mathlib.Core.List.{[], _∷_}
 use native.Mathlib.Omega.{arith}
 use borrow.Author.Needs.{needs}

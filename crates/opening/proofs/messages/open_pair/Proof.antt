@@ -1,11 +1,10 @@
 -- `open_pair` meets its contract: the parameters, then the inverses.
 use mathlib.Core.Path.{_≡_, sym, _∙_, ap, ap₂, subst}
-use mathlib.Core.Bool.{Bool, _&&_}
+use mathlib.Core.Bool.{Bool}
 use Prim.Native.Nat.{ℕ, _*_}
 use borrow.Author.Needs.{needs}
 use borrow.Author.Tests.{not-true, not-false}
 use lib.Dec.{T, eqb, eqb→eq}
-use lib.ListN.{length}
 use mir.Facts.{and-yes}
 use Rattle.refusals.proofs.Checks.{fails-refused, holds-passed}
 use Rattle.eisenstein.specs.Values.{ℤ[ω], same}

@@ -1,0 +1,183 @@
+//! Each call, held against its definition: its number, and its output, which lies within a longer
+//! array of random numbers. Returns what the definition gives.
+
+use std::fmt::Debug;
+
+use etru::{Error, Kind, Pair, Parameters};
+
+use crate::definitions::{self, Value};
+use crate::drawing::Rng;
+
+const MARGIN: usize = 5;
+
+/// A result of the crate, in the form of the definitions'.
+pub fn numbered<T>(result: Result<T, Error>) -> Result<T, u32> {
+    result.map_err(Error::number)
+}
+
+fn pair(value: Value) -> Pair {
+    Pair {
+        a: value.0 as i32,
+        b: value.1 as i32,
+    }
+}
+
+/// `before` is what stands in and around the output.
+fn agree<T: Copy + Debug + PartialEq>(
+    before: Vec<T>,
+    wanted: &Result<Vec<T>, u32>,
+    call: impl FnOnce(&mut [T]) -> Result<(), Error>,
+) {
+    let room = MARGIN..before.len() - MARGIN;
+    let mut lent = before.clone();
+    let number = numbered(call(&mut lent[room.clone()]));
+    let mut after = before;
+    if let Ok(values) = wanted {
+        after[room].copy_from_slice(values);
+    }
+    assert_eq!(
+        number,
+        wanted.as_ref().map(|_| ()).map_err(|&number| number)
+    );
+    assert_eq!(lent, after);
+}
+
+fn agree_on_numbers(
+    rng: &mut Rng,
+    room: usize,
+    wanted: Result<Vec<i32>, u32>,
+    call: impl FnOnce(&mut [i32]) -> Result<(), Error>,
+) -> Result<Vec<i32>, u32> {
+    agree(rng.numbers(room + 2 * MARGIN), &wanted, call);
+    wanted
+}
+
+fn agree_on_bytes(
+    rng: &mut Rng,
+    room: usize,
+    wanted: Result<Vec<u8>, u32>,
+    call: impl FnOnce(&mut [u8]) -> Result<(), Error>,
+) -> Result<Vec<u8>, u32> {
+    agree(rng.bytes(room + 2 * MARGIN), &wanted, call);
+    wanted
+}
+
+pub fn reduce_q(x: Value, q: Value) -> Result<Value, u32> {
+    let wanted = definitions::reduce_q(x, q);
+    let given = etru::reduce_q(x.0, x.1, q.0 as i32, q.1 as i32);
+    assert_eq!(numbered(given), wanted.map(pair), "{x:?} modulo {q:?}");
+    wanted
+}
+
+pub fn reduce_2(x: Value) -> Result<Value, u32> {
+    let wanted = definitions::reduce_2(x);
+    assert_eq!(
+        numbered(etru::reduce_2(x.0, x.1)),
+        wanted.map(pair),
+        "{x:?} modulo 2"
+    );
+    wanted
+}
+
+pub fn check_parameters(p: Parameters) -> Result<(), u32> {
+    let wanted = definitions::check_parameters(p);
+    assert_eq!(numbered(p.check()), wanted, "{p:?}");
+    let made = Parameters::new(p.n, p.c, p.d, p.s, p.t);
+    assert_eq!(numbered(made), wanted.map(|()| p), "{p:?}");
+    wanted
+}
+
+pub fn convolve(
+    rng: &mut Rng,
+    p: Parameters,
+    x: &[i32],
+    y: &[i32],
+    room: usize,
+) -> Result<Vec<i32>, u32> {
+    let wanted = definitions::convolve(p, x, y, room);
+    agree_on_numbers(rng, room, wanted, |out| etru::convolve(p, x, y, out))
+}
+
+pub fn check_key(
+    rng: &mut Rng,
+    p: Parameters,
+    key: [&[i32]; 4],
+    room: usize,
+) -> Result<Vec<i32>, u32> {
+    let wanted = definitions::check_key(p, key, room);
+    let [f, f2, fq, g] = key;
+    agree_on_numbers(rng, room, wanted, |h| etru::check_key(p, f, f2, fq, g, h))
+}
+
+pub fn seal(
+    rng: &mut Rng,
+    p: Parameters,
+    h: &[i32],
+    phi: &[i32],
+    message: &[u8],
+    room: usize,
+) -> Result<Vec<i32>, u32> {
+    let wanted = definitions::seal(p, h, phi, message, room);
+    agree_on_numbers(rng, room, wanted, |e| etru::seal(p, h, phi, message, e))
+}
+
+pub fn open(
+    rng: &mut Rng,
+    p: Parameters,
+    f: &[i32],
+    f2: &[i32],
+    e: &[i32],
+    room: usize,
+) -> Result<Vec<u8>, u32> {
+    let wanted = definitions::open(p, f, f2, e, room);
+    agree_on_bytes(rng, room, wanted, |message| {
+        etru::open(p, f, f2, e, message)
+    })
+}
+
+pub fn pack(rng: &mut Rng, n: u32, message: &[u8], room: usize) -> Result<Vec<i32>, u32> {
+    let wanted = definitions::pack(n, message, room);
+    agree_on_numbers(rng, room, wanted, |m| etru::pack(n, message, m))
+}
+
+pub fn unpack(rng: &mut Rng, n: u32, m: &[i32], room: usize) -> Result<Vec<u8>, u32> {
+    let wanted = definitions::unpack(n, m, room);
+    agree_on_bytes(rng, room, wanted, |message| etru::unpack(n, m, message))
+}
+
+pub fn read_head(kind: Kind, file: &[u8]) -> Result<Parameters, u32> {
+    let wanted = definitions::read_head(kind, file);
+    assert_eq!(numbered(etru::read_head(kind, file)), wanted);
+    wanted
+}
+
+pub fn read(rng: &mut Rng, kind: Kind, file: &[u8], room: usize) -> Result<Vec<i32>, u32> {
+    let wanted = definitions::read(kind, file, room);
+    agree_on_numbers(rng, room, wanted, |numbers| etru::read(kind, file, numbers))
+}
+
+pub fn write(
+    rng: &mut Rng,
+    kind: Kind,
+    p: Parameters,
+    numbers: &[i32],
+    room: usize,
+) -> Result<Vec<u8>, u32> {
+    let wanted = definitions::write(kind, p, numbers, room);
+    agree_on_bytes(rng, room, wanted, |file| {
+        etru::write(kind, p, numbers, file)
+    })
+}
+
+/// Returns the line. What stands behind it is to be left as it came.
+pub fn open_files(rng: &mut Rng, input: &[u8]) -> Vec<u8> {
+    let line = definitions::line(input);
+    let before = rng.bytes(etru::LINE_BYTES + 2 * MARGIN);
+    let behind = &before[MARGIN + line.len()..MARGIN + etru::LINE_BYTES];
+    let wanted = Ok([&line, behind].concat());
+    agree(before, &wanted, |room| {
+        assert_eq!(etru::open_files(input, room)?, line);
+        Ok(())
+    });
+    line
+}

@@ -1,0 +1,43 @@
+//! The lengths and limits that the crate tells.
+
+use etru::{Kind, Parameters};
+
+use crate::definitions;
+
+#[test]
+fn limits_of_parameters() {
+    assert_eq!((Parameters::MIN_N, Parameters::MAX_N), (3, 1024));
+    assert_eq!((Parameters::MIN_S, Parameters::MIN_T), (3, 1));
+}
+
+#[test]
+fn numbers_of_kinds() {
+    let kinds = [Kind::Public, Kind::Private, Kind::Sealed];
+    assert_eq!(kinds.map(|kind| kind as u32), [1, 2, 3]);
+}
+
+#[test]
+fn lengths_of_arrays_messages_and_files() {
+    for n in (0..=1100).chain([65535, u32::MAX - 1, u32::MAX]) {
+        assert_eq!(etru::array_length(n), 2 * n as usize);
+        assert_eq!(etru::message_bytes(n), definitions::message_bytes(n));
+        for kind in [Kind::Public, Kind::Private, Kind::Sealed] {
+            assert_eq!(
+                etru::number_count(kind, n),
+                definitions::number_count(kind, n)
+            );
+            assert_eq!(
+                etru::file_length(kind, n),
+                definitions::file_length(kind, n)
+            );
+        }
+    }
+    assert_eq!(etru::file_length(Kind::Private, 3), 64);
+    assert_eq!(etru::file_length(Kind::Sealed, 3), 28);
+}
+
+#[test]
+fn the_longest_line() {
+    let digits = 2 * etru::message_bytes(Parameters::MAX_N);
+    assert_eq!(etru::LINE_BYTES, "0 ".len() + digits + "\n".len());
+}

@@ -1,0 +1,14 @@
+//! The crate against document 01: its own lines, each refusal, and random keys, values and files,
+//! held against the definitions in plain Rust.
+
+mod calls;
+mod definitions;
+mod document_01;
+mod drawing;
+mod files;
+mod keys;
+mod lengths;
+mod random_keys;
+mod refusals;
+mod spoiled_calls;
+mod values;

@@ -1,0 +1,514 @@
+//! Each of document 01's 22 refusals: its name, its number, and outputs left as they came.
+
+use std::fmt::Debug;
+
+use etru::{Error, Kind, Parameters, Refusal};
+
+use crate::document_01::{private_file, ONE, SEALED, SEALED_FILE, SMALL, TRIPLE};
+
+fn is_refused<T: Debug + PartialEq>(given: Result<T, Error>, refusal: Refusal, number: u32) {
+    assert_eq!(given, Err(Error::Refused(refusal)));
+    assert_eq!(refusal.number(), number);
+    assert_eq!(Refusal::from_number(number), Some(refusal));
+    let error: Box<dyn std::error::Error> = Box::new(refusal);
+    assert!(error
+        .to_string()
+        .starts_with(&format!("refusal {number}: ")));
+}
+
+/// Each call on a parameter set refuses it alike.
+fn parameters_are_refused(p: Parameters, refusal: Refusal, number: u32) {
+    is_refused(p.check(), refusal, number);
+    is_refused(Parameters::new(p.n, p.c, p.d, p.s, p.t), refusal, number);
+    let mut numbers = [77; 6];
+    is_refused(
+        etru::convolve(p, &ONE, &TRIPLE, &mut numbers),
+        refusal,
+        number,
+    );
+    is_refused(
+        etru::check_key(p, &ONE, &ONE, &ONE, &TRIPLE, &mut numbers),
+        refusal,
+        number,
+    );
+    is_refused(
+        etru::seal(p, &TRIPLE, &TRIPLE, &[0xB0], &mut numbers),
+        refusal,
+        number,
+    );
+    assert_eq!(numbers, [77; 6]);
+    let mut message = [77];
+    is_refused(
+        etru::open(p, &ONE, &ONE, &SEALED, &mut message),
+        refusal,
+        number,
+    );
+    assert_eq!(message, [77]);
+    let mut file = [77; 28];
+    is_refused(
+        etru::write(Kind::Sealed, p, &SEALED, &mut file),
+        refusal,
+        number,
+    );
+    assert_eq!(file, [77; 28]);
+}
+
+#[test]
+fn refusal_01_coefficient_count_out_of_range() {
+    let refusal = Refusal::CoefficientCountOutOfRange;
+    for n in [0, 2, 1025, u32::MAX] {
+        parameters_are_refused(Parameters { n, ..SMALL }, refusal, 1);
+        let mut m = [77; 6];
+        is_refused(etru::pack(n, &[0xB0], &mut m), refusal, 1);
+        assert_eq!(m, [77; 6]);
+        let mut message = [77];
+        is_refused(etru::unpack(n, &ONE, &mut message), refusal, 1);
+        assert_eq!(message, [77]);
+    }
+}
+
+#[test]
+fn refusal_02_modulus_part_out_of_range() {
+    let refusal = Refusal::ModulusPartOutOfRange;
+    for part in [4096, -4096, i32::MAX, i32::MIN] {
+        parameters_are_refused(Parameters { c: part, ..SMALL }, refusal, 2);
+        parameters_are_refused(Parameters { d: part, ..SMALL }, refusal, 2);
+        is_refused(etru::reduce_q(7, 8, part, 0), refusal, 2);
+        is_refused(etru::reduce_q(7, 8, 0, part), refusal, 2);
+    }
+}
+
+#[test]
+fn refusal_03_modulus_parts_both_even() {
+    let p = Parameters {
+        c: 4,
+        d: 6,
+        ..SMALL
+    };
+    parameters_are_refused(p, Refusal::ModulusPartsBothEven, 3);
+}
+
+#[test]
+fn refusal_04_s_out_of_range() {
+    for s in [0, 1, 2, 4, 6, u32::MAX] {
+        parameters_are_refused(Parameters { s, ..SMALL }, Refusal::SOutOfRange, 4);
+    }
+}
+
+#[test]
+fn refusal_05_t_out_of_range() {
+    for t in [0, 4, u32::MAX] {
+        parameters_are_refused(Parameters { t, ..SMALL }, Refusal::TOutOfRange, 5);
+    }
+}
+
+#[test]
+fn refusal_06_bound_not_below_norm() {
+    for t in [2, 3] {
+        parameters_are_refused(Parameters { t, ..SMALL }, Refusal::BoundNotBelowNorm, 6);
+    }
+    // 196 is above the norm 169
+    let p = Parameters { c: 13, ..SMALL };
+    parameters_are_refused(p, Refusal::BoundNotBelowNorm, 6);
+}
+
+/// The slices of wrong length are empty too, whose pointers point to nothing.
+#[test]
+fn refusal_07_wrong_length() {
+    let refusal = Refusal::WrongLength;
+    let long = [0; 8];
+    let bytes = [0xB0, 0];
+    for length in [0, 5, 7, 8] {
+        let wrong = &long[..length];
+        let mut out = [77; 6];
+        is_refused(etru::convolve(SMALL, wrong, &ONE, &mut out), refusal, 7);
+        is_refused(etru::convolve(SMALL, &ONE, wrong, &mut out), refusal, 7);
+        is_refused(
+            etru::check_key(SMALL, wrong, &ONE, &ONE, &TRIPLE, &mut out),
+            refusal,
+            7,
+        );
+        is_refused(
+            etru::check_key(SMALL, &ONE, wrong, &ONE, &TRIPLE, &mut out),
+            refusal,
+            7,
+        );
+        is_refused(
+            etru::check_key(SMALL, &ONE, &ONE, wrong, &TRIPLE, &mut out),
+            refusal,
+            7,
+        );
+        is_refused(
+            etru::check_key(SMALL, &ONE, &ONE, &ONE, wrong, &mut out),
+            refusal,
+            7,
+        );
+        is_refused(
+            etru::seal(SMALL, wrong, &TRIPLE, &[0xB0], &mut out),
+            refusal,
+            7,
+        );
+        is_refused(
+            etru::seal(SMALL, &TRIPLE, wrong, &[0xB0], &mut out),
+            refusal,
+            7,
+        );
+        assert_eq!(out, [77; 6]);
+        let mut message = [77];
+        is_refused(
+            etru::open(SMALL, wrong, &ONE, &SEALED, &mut message),
+            refusal,
+            7,
+        );
+        is_refused(
+            etru::open(SMALL, &ONE, wrong, &SEALED, &mut message),
+            refusal,
+            7,
+        );
+        is_refused(
+            etru::open(SMALL, &ONE, &ONE, wrong, &mut message),
+            refusal,
+            7,
+        );
+        is_refused(etru::unpack(3, wrong, &mut message), refusal, 7);
+        assert_eq!(message, [77]);
+        let mut file = [77; 28];
+        is_refused(
+            etru::write(Kind::Sealed, SMALL, wrong, &mut file),
+            refusal,
+            7,
+        );
+        assert_eq!(file, [77; 28]);
+
+        let mut out = vec![77; length];
+        is_refused(etru::convolve(SMALL, &ONE, &TRIPLE, &mut out), refusal, 7);
+        is_refused(
+            etru::check_key(SMALL, &ONE, &ONE, &ONE, &TRIPLE, &mut out),
+            refusal,
+            7,
+        );
+        is_refused(
+            etru::seal(SMALL, &TRIPLE, &TRIPLE, &[0xB0], &mut out),
+            refusal,
+            7,
+        );
+        is_refused(etru::pack(3, &[0xB0], &mut out), refusal, 7);
+        is_refused(etru::read(Kind::Sealed, &SEALED_FILE, &mut out), refusal, 7);
+        assert_eq!(out, vec![77; length]);
+    }
+    for length in [0, 2] {
+        let wrong = &bytes[..length];
+        let mut out = [77; 6];
+        is_refused(
+            etru::seal(SMALL, &TRIPLE, &TRIPLE, wrong, &mut out),
+            refusal,
+            7,
+        );
+        is_refused(etru::pack(3, wrong, &mut out), refusal, 7);
+        assert_eq!(out, [77; 6]);
+        let mut message = vec![77; length];
+        is_refused(
+            etru::open(SMALL, &ONE, &ONE, &SEALED, &mut message),
+            refusal,
+            7,
+        );
+        is_refused(etru::unpack(3, &ONE, &mut message), refusal, 7);
+        assert_eq!(message, vec![77; length]);
+    }
+    for length in [0, 16, 27, 29] {
+        let mut file = vec![77; length];
+        is_refused(
+            etru::write(Kind::Sealed, SMALL, &SEALED, &mut file),
+            refusal,
+            7,
+        );
+        assert_eq!(file, vec![77; length]);
+    }
+    let mut out = [77; 6];
+    is_refused(
+        etru::read(Kind::Sealed, &SEALED_FILE[..27], &mut out),
+        refusal,
+        7,
+    );
+    is_refused(
+        etru::read(Kind::Sealed, &[&SEALED_FILE[..], &[0]].concat(), &mut out),
+        refusal,
+        7,
+    );
+    assert_eq!(out, [77; 6]);
+    for length in [0, 514, 516] {
+        let mut line = vec![77; length];
+        is_refused(etru::open_files(&[], &mut line), refusal, 7);
+        assert_eq!(line, vec![77; length]);
+    }
+}
+
+#[test]
+fn refusal_08_f_not_in_its_set() {
+    let refusal = Refusal::FNotInItsSet;
+    for f in [[0; 6], TRIPLE, [2, 0, 0, 0, 0, 0], [1, -1, 0, 0, 0, 0]] {
+        let mut h = [77; 6];
+        is_refused(
+            etru::check_key(SMALL, &f, &ONE, &ONE, &TRIPLE, &mut h),
+            refusal,
+            8,
+        );
+        assert_eq!(h, [77; 6]);
+        let mut message = [77];
+        is_refused(
+            etru::open(SMALL, &f, &ONE, &SEALED, &mut message),
+            refusal,
+            8,
+        );
+        assert_eq!(message, [77]);
+        let mut file = [77; 64];
+        let numbers = [f, ONE, ONE, TRIPLE].concat();
+        is_refused(
+            etru::write(Kind::Private, SMALL, &numbers, &mut file),
+            refusal,
+            8,
+        );
+        assert_eq!(file, [77; 64]);
+    }
+}
+
+#[test]
+fn refusal_09_g_not_in_its_set() {
+    let refusal = Refusal::GNotInItsSet;
+    // not three units, not units, and three units whose sum is not zero
+    for g in [ONE, [1, -1, 1, 0, -2, 1], [1, 0, 1, 0, 1, 0]] {
+        let mut h = [77; 6];
+        is_refused(
+            etru::check_key(SMALL, &ONE, &ONE, &ONE, &g, &mut h),
+            refusal,
+            9,
+        );
+        assert_eq!(h, [77; 6]);
+        let mut file = [77; 64];
+        let numbers = [ONE, ONE, ONE, g].concat();
+        is_refused(
+            etru::write(Kind::Private, SMALL, &numbers, &mut file),
+            refusal,
+            9,
+        );
+        assert_eq!(file, [77; 64]);
+    }
+}
+
+#[test]
+fn refusal_10_phi_not_in_its_set() {
+    for phi in [ONE, [1, -1, 1, 0, -2, 1], [1, 0, 1, 0, 1, 0]] {
+        let mut e = [77; 6];
+        let given = etru::seal(SMALL, &TRIPLE, &phi, &[0xB0], &mut e);
+        is_refused(given, Refusal::PhiNotInItsSet, 10);
+        assert_eq!(e, [77; 6]);
+    }
+}
+
+#[test]
+fn refusal_11_not_reduced_modulo_2() {
+    let refusal = Refusal::NotReducedModulo2;
+    for x in [[1, 1, 0, 0, 0, 0], [-1, 0, 0, 0, 0, 0], [1, 0, 0, 0, 0, 2]] {
+        let mut h = [77; 6];
+        is_refused(
+            etru::check_key(SMALL, &ONE, &x, &ONE, &TRIPLE, &mut h),
+            refusal,
+            11,
+        );
+        assert_eq!(h, [77; 6]);
+        let mut message = [77];
+        is_refused(
+            etru::open(SMALL, &ONE, &x, &SEALED, &mut message),
+            refusal,
+            11,
+        );
+        is_refused(etru::unpack(3, &x, &mut message), refusal, 11);
+        assert_eq!(message, [77]);
+    }
+}
+
+#[test]
+fn refusal_12_not_reduced_modulo_q() {
+    let refusal = Refusal::NotReducedModuloQ;
+    for x in [
+        [8, 0, 0, 0, 0, 0],
+        [-8, -7, 0, 0, 0, 0],
+        [0, 0, 0, 0, i32::MIN, i32::MAX],
+    ] {
+        let mut out = [77; 6];
+        is_refused(etru::convolve(SMALL, &x, &ONE, &mut out), refusal, 12);
+        is_refused(etru::convolve(SMALL, &ONE, &x, &mut out), refusal, 12);
+        is_refused(
+            etru::check_key(SMALL, &ONE, &ONE, &x, &TRIPLE, &mut out),
+            refusal,
+            12,
+        );
+        is_refused(
+            etru::seal(SMALL, &x, &TRIPLE, &[0xB0], &mut out),
+            refusal,
+            12,
+        );
+        assert_eq!(out, [77; 6]);
+        let mut message = [77];
+        is_refused(etru::open(SMALL, &ONE, &ONE, &x, &mut message), refusal, 12);
+        assert_eq!(message, [77]);
+        let mut file = [77; 28];
+        is_refused(etru::write(Kind::Public, SMALL, &x, &mut file), refusal, 12);
+        is_refused(etru::write(Kind::Sealed, SMALL, &x, &mut file), refusal, 12);
+        assert_eq!(file, [77; 28]);
+    }
+}
+
+#[test]
+fn refusal_13_not_inverse_modulo_2() {
+    let f2 = [0, 0, 1, 0, 0, 0];
+    let mut h = [77; 6];
+    let given = etru::check_key(SMALL, &ONE, &f2, &ONE, &TRIPLE, &mut h);
+    is_refused(given, Refusal::NotInverseModulo2, 13);
+    assert_eq!(h, [77; 6]);
+}
+
+#[test]
+fn refusal_14_not_inverse_modulo_q() {
+    // 1 is −1 modulo 2, but not modulo q
+    let fq = [-1, 0, 0, 0, 0, 0];
+    let mut h = [77; 6];
+    let given = etru::check_key(SMALL, &ONE, &ONE, &fq, &TRIPLE, &mut h);
+    is_refused(given, Refusal::NotInverseModuloQ, 14);
+    assert_eq!(h, [77; 6]);
+}
+
+#[test]
+fn refusal_15_spare_bit_set() {
+    let refusal = Refusal::SpareBitSet;
+    for byte in [0xB1, 0xB2] {
+        let mut out = [77; 6];
+        is_refused(
+            etru::seal(SMALL, &TRIPLE, &TRIPLE, &[byte], &mut out),
+            refusal,
+            15,
+        );
+        is_refused(etru::pack(3, &[byte], &mut out), refusal, 15);
+        assert_eq!(out, [77; 6]);
+    }
+}
+
+fn file_is_refused(kind: Kind, file: &[u8], refusal: Refusal, number: u32) {
+    is_refused(etru::read_head(kind, file), refusal, number);
+    let mut numbers = vec![77; etru::number_count(kind, 3)];
+    is_refused(etru::read(kind, file, &mut numbers), refusal, number);
+    assert_eq!(numbers, vec![77; etru::number_count(kind, 3)]);
+}
+
+#[test]
+fn refusal_16_head_too_short() {
+    for length in [0, 1, 15] {
+        file_is_refused(
+            Kind::Sealed,
+            &SEALED_FILE[..length],
+            Refusal::HeadTooShort,
+            16,
+        );
+    }
+}
+
+/// The sealed file with one byte changed.
+fn sealed_file_but(place: usize, byte: u8) -> [u8; 28] {
+    let mut file = SEALED_FILE;
+    file[place] = byte;
+    file
+}
+
+#[test]
+fn refusal_17_mark_not_eiz() {
+    for place in 0..3 {
+        let file = sealed_file_but(place, b'e');
+        file_is_refused(Kind::Sealed, &file, Refusal::MarkNotEiz, 17);
+    }
+}
+
+#[test]
+fn refusal_18_version_not_one() {
+    for (place, byte) in [(3, 1), (4, 0), (4, 2)] {
+        let file = sealed_file_but(place, byte);
+        file_is_refused(Kind::Sealed, &file, Refusal::VersionNotOne, 18);
+    }
+}
+
+#[test]
+fn refusal_19_kind_not_wanted() {
+    for kind in [Kind::Public, Kind::Private] {
+        file_is_refused(kind, &SEALED_FILE, Refusal::KindNotWanted, 19);
+    }
+    file_is_refused(Kind::Sealed, &private_file(), Refusal::KindNotWanted, 19);
+    for byte in [0, 4, 255] {
+        let file = sealed_file_but(5, byte);
+        file_is_refused(Kind::Sealed, &file, Refusal::KindNotWanted, 19);
+    }
+}
+
+/// q = 17 for 15: the sealed array is reduced modulo both.
+#[test]
+fn refusal_20_parameters_differ() {
+    let mut line = [77; etru::LINE_BYTES];
+    let input = [&private_file()[..], &sealed_file_but(9, 17)].concat();
+    assert_eq!(etru::open_files(&input, &mut line), Ok(&b"20 -\n"[..]));
+    assert_eq!(line[5..], [77; etru::LINE_BYTES - 5]);
+    is_refused::<()>(
+        Err(Error::Refused(Refusal::ParametersDiffer)),
+        Refusal::ParametersDiffer,
+        20,
+    );
+}
+
+#[test]
+fn refusal_21_modulus_zero() {
+    is_refused(etru::reduce_q(7, 8, 0, 0), Refusal::ModulusZero, 21);
+}
+
+#[test]
+fn refusal_22_value_out_of_range() {
+    let refusal = Refusal::ValueOutOfRange;
+    for part in [(1 << 40) + 1, -(1 << 40) - 1, i64::MAX, i64::MIN] {
+        for (a, b) in [(part, 0), (0, part)] {
+            is_refused(etru::reduce_q(a, b, 15, 0), refusal, 22);
+            is_refused(etru::reduce_2(a, b), refusal, 22);
+        }
+    }
+}
+
+/// "One value modulo q: 2, 21, 22", and "Key check: 8, 11, 12, 9, 13, 14".
+#[test]
+fn the_first_refusal_is_given() {
+    is_refused(
+        etru::reduce_q(i64::MAX, 0, 4096, 0),
+        Refusal::ModulusPartOutOfRange,
+        2,
+    );
+    is_refused(etru::reduce_q(i64::MAX, 0, 0, 0), Refusal::ModulusZero, 21);
+    let bad = [9; 6];
+    let wrong = [0, 0, 1, 0, 0, 0];
+    let mut h = [77; 6];
+    let mut check = |f: &[i32], f2: &[i32], fq: &[i32], g: &[i32], refusal: Refusal, number| {
+        is_refused(
+            etru::check_key(SMALL, f, f2, fq, g, &mut h),
+            refusal,
+            number,
+        );
+        assert_eq!(h, [77; 6]);
+    };
+    check(&bad, &bad, &bad, &bad[..5], Refusal::WrongLength, 7);
+    check(&bad, &bad, &bad, &bad, Refusal::FNotInItsSet, 8);
+    check(&ONE, &bad, &bad, &bad, Refusal::NotReducedModulo2, 11);
+    check(&ONE, &wrong, &bad, &bad, Refusal::NotReducedModuloQ, 12);
+    check(&ONE, &wrong, &wrong, &bad, Refusal::GNotInItsSet, 9);
+    check(
+        &ONE,
+        &wrong,
+        &wrong,
+        &TRIPLE,
+        Refusal::NotInverseModulo2,
+        13,
+    );
+    check(&ONE, &ONE, &wrong, &TRIPLE, Refusal::NotInverseModuloQ, 14);
+}

@@ -1,0 +1,188 @@
+// Tests the limits and lengths of include/etru.h against the library: what the header says is accepted, and one less or
+// one more is refused. The last line is 'N passed, M failed'.
+#include "etru.h"
+
+#include <stdio.h>
+#include <string.h>
+
+static unsigned passed, failed;
+
+static void expect(const char *what, uint32_t number, uint32_t expected) {
+    if (number == expected) {
+        passed++;
+    } else {
+        failed++;
+        printf("failed: %s: %u, but %u was expected\n", what, (unsigned)number, (unsigned)expected);
+    }
+}
+
+// ---- Lengths
+
+// Each array has a place more than the largest N needs, so that a count that is one too large can be lent.
+#define ARRAY (ETRU_ARRAY_NUMBERS(ETRU_MAX_N) + 1)
+#define PRIVATE_NUMBERS (ETRU_PRIVATE_FILE_NUMBERS(ETRU_MAX_N) + 1)
+#define MESSAGE (ETRU_MESSAGE_BYTES(ETRU_MAX_N) + 1)
+
+// f = F2 = Fq = 1 and g = φ = 1 + ωX + (−1 − ω)X² with q = 15, s = 3, t = 1: document 01's small key, at any N.
+static uint32_t n;
+static int32_t one[ARRAY] = {1}, triple[ARRAY] = {1, 0, 0, 1, -1, -1}, h[ARRAY], e[ARRAY], out[ARRAY];
+static int32_t key[PRIVATE_NUMBERS], numbers[PRIVATE_NUMBERS];
+static uint8_t message[MESSAGE], opened[MESSAGE], line[ETRU_LINE_BYTES + 1];
+static uint8_t public_file[ETRU_PUBLIC_FILE_BYTES(ETRU_MAX_N) + 1];
+static uint8_t private_file[ETRU_PRIVATE_FILE_BYTES(ETRU_MAX_N) + 1];
+static uint8_t sealed_file[ETRU_SEALED_FILE_BYTES(ETRU_MAX_N) + 1];
+
+// Each call with its counts.
+static uint32_t convolve(const size_t *k) {
+    return etru_convolve(n, 15, 0, 3, 1, one, k[0], triple, k[1], out, k[2]);
+}
+static uint32_t check_key(const size_t *k) {
+    return etru_check_key(n, 15, 0, 3, 1, one, k[0], one, k[1], one, k[2], triple, k[3], h, k[4]);
+}
+static uint32_t seal(const size_t *k) {
+    return etru_seal(n, 15, 0, 3, 1, h, k[0], triple, k[1], message, k[2], e, k[3]);
+}
+static uint32_t open_sealed(const size_t *k) {
+    return etru_open(n, 15, 0, 3, 1, one, k[0], one, k[1], e, k[2], opened, k[3]);
+}
+static uint32_t pack(const size_t *k) {
+    return etru_pack(n, message, k[0], out, k[1]);
+}
+static uint32_t unpack(const size_t *k) {
+    return etru_unpack(n, out, k[0], opened, k[1]);
+}
+static uint32_t write_public(const size_t *k) {
+    return etru_write(ETRU_PUBLIC_FILE, n, 15, 0, 3, 1, h, k[0], public_file, k[1]);
+}
+static uint32_t write_private(const size_t *k) {
+    return etru_write(ETRU_PRIVATE_FILE, n, 15, 0, 3, 1, key, k[0], private_file, k[1]);
+}
+static uint32_t write_sealed(const size_t *k) {
+    return etru_write(ETRU_SEALED_FILE, n, 15, 0, 3, 1, e, k[0], sealed_file, k[1]);
+}
+static uint32_t read_public(const size_t *k) {
+    return etru_read(ETRU_PUBLIC_FILE, public_file, k[0], numbers, k[1]);
+}
+static uint32_t read_private(const size_t *k) {
+    return etru_read(ETRU_PRIVATE_FILE, private_file, k[0], numbers, k[1]);
+}
+static uint32_t read_sealed(const size_t *k) {
+    return etru_read(ETRU_SEALED_FILE, sealed_file, k[0], numbers, k[1]);
+}
+static uint32_t open_files(const size_t *k) {
+    size_t used;
+    return etru_open_files(private_file, ETRU_PRIVATE_FILE_BYTES(n), line, k[0], &used);
+}
+
+static uint32_t read_head(size_t count) {
+    uint32_t head_n, s, t;
+    int32_t c, d;
+    return etru_read_head(ETRU_PRIVATE_FILE, private_file, count, &head_n, &c, &d, &s, &t);
+}
+
+// A call with the counts that the header says, up to five; the first 0 ends them.
+struct call {
+    const char *name;
+    uint32_t (*function)(const size_t *count);
+    size_t count[6];
+};
+
+static void try_counts(const struct call *call) {
+    char what[80];
+    size_t count[6];
+    memcpy(count, call->count, sizeof count);
+    snprintf(what, sizeof what, "N = %u, %s", (unsigned)n, call->name);
+    expect(what, call->function(count), ETRU_OK);
+    for (size_t i = 0; count[i] != 0; i++) {
+        snprintf(what, sizeof what, "N = %u, %s, count %u one less", (unsigned)n, call->name, (unsigned)i);
+        count[i] = call->count[i] - 1;
+        expect(what, call->function(count), ETRU_WRONG_LENGTH);
+        snprintf(what, sizeof what, "N = %u, %s, count %u one more", (unsigned)n, call->name, (unsigned)i);
+        count[i] = call->count[i] + 1;
+        expect(what, call->function(count), ETRU_WRONG_LENGTH);
+        count[i] = call->count[i];
+    }
+}
+
+// A later call uses what an earlier one wrote.
+static void try_lengths(void) {
+    const size_t array = ETRU_ARRAY_NUMBERS(n), bytes = ETRU_MESSAGE_BYTES(n);
+    const struct call calls[] = {
+        {"etru_convolve", convolve, {array, array, array}},
+        {"etru_check_key", check_key, {array, array, array, array, array}},
+        {"etru_seal", seal, {array, array, bytes, array}},
+        {"etru_open", open_sealed, {array, array, array, bytes}},
+        {"etru_pack", pack, {bytes, array}},
+        {"etru_unpack", unpack, {array, bytes}},
+        {"etru_write, public", write_public, {ETRU_PUBLIC_FILE_NUMBERS(n), ETRU_PUBLIC_FILE_BYTES(n)}},
+        {"etru_write, private", write_private, {ETRU_PRIVATE_FILE_NUMBERS(n), ETRU_PRIVATE_FILE_BYTES(n)}},
+        {"etru_write, sealed", write_sealed, {ETRU_SEALED_FILE_NUMBERS(n), ETRU_SEALED_FILE_BYTES(n)}},
+        {"etru_read, public", read_public, {ETRU_PUBLIC_FILE_BYTES(n), ETRU_PUBLIC_FILE_NUMBERS(n)}},
+        {"etru_read, private", read_private, {ETRU_PRIVATE_FILE_BYTES(n), ETRU_PRIVATE_FILE_NUMBERS(n)}},
+        {"etru_read, sealed", read_sealed, {ETRU_SEALED_FILE_BYTES(n), ETRU_SEALED_FILE_NUMBERS(n)}},
+        {"etru_open_files", open_files, {ETRU_LINE_BYTES}},
+    };
+    memcpy(key, one, array * sizeof key[0]);
+    memcpy(key + array, one, array * sizeof key[0]);
+    memcpy(key + 2 * array, one, array * sizeof key[0]);
+    memcpy(key + 3 * array, triple, array * sizeof key[0]);
+    for (size_t i = 0; i < sizeof calls / sizeof calls[0]; i++) {
+        try_counts(&calls[i]);
+    }
+    expect("ETRU_HEAD_BYTES", read_head(ETRU_HEAD_BYTES), ETRU_OK);
+    expect("ETRU_HEAD_BYTES - 1", read_head(ETRU_HEAD_BYTES - 1), ETRU_HEAD_TOO_SHORT);
+}
+
+// A macro of N takes any expression, gives a size_t, and is one operand of what stands around it.
+#define EXPECT_OPERAND(macro) \
+    do { \
+        const size_t length = macro(3); \
+        expect(#macro, sizeof macro(3) == sizeof(size_t) && 1000 % macro(1 ? 3 : 0) == 1000 % length, 1); \
+    } while (0)
+
+static void try_macros(void) {
+    EXPECT_OPERAND(ETRU_ARRAY_NUMBERS);
+    EXPECT_OPERAND(ETRU_MESSAGE_BYTES);
+    EXPECT_OPERAND(ETRU_PUBLIC_FILE_NUMBERS);
+    EXPECT_OPERAND(ETRU_PRIVATE_FILE_NUMBERS);
+    EXPECT_OPERAND(ETRU_SEALED_FILE_NUMBERS);
+    EXPECT_OPERAND(ETRU_PUBLIC_FILE_BYTES);
+    EXPECT_OPERAND(ETRU_PRIVATE_FILE_BYTES);
+    EXPECT_OPERAND(ETRU_SEALED_FILE_BYTES);
+}
+
+// ---- Limits
+
+static void try_limits(void) {
+    expect("ETRU_MIN_N", etru_check_parameters(ETRU_MIN_N, 15, 0, 3, 1), ETRU_OK);
+    expect("ETRU_MIN_N - 1", etru_check_parameters(ETRU_MIN_N - 1, 15, 0, 3, 1), ETRU_COEFFICIENT_COUNT_OUT_OF_RANGE);
+    expect("ETRU_MAX_N", etru_check_parameters(ETRU_MAX_N, 15, 0, 3, 1), ETRU_OK);
+    expect("ETRU_MAX_N + 1", etru_check_parameters(ETRU_MAX_N + 1, 15, 0, 3, 1), ETRU_COEFFICIENT_COUNT_OUT_OF_RANGE);
+
+    int32_t ra, rb;
+    for (int sign = -1; sign <= 1; sign += 2) {
+        const int32_t part = sign * ETRU_MODULUS_LIMIT, next = sign * (ETRU_MODULUS_LIMIT + 1);
+        expect("ETRU_MODULUS_LIMIT", etru_reduce_q(1, 0, part, part, &ra, &rb), ETRU_OK);
+        expect("ETRU_MODULUS_LIMIT + 1, c", etru_reduce_q(1, 0, next, 1, &ra, &rb), ETRU_MODULUS_PART_OUT_OF_RANGE);
+        expect("ETRU_MODULUS_LIMIT + 1, d", etru_reduce_q(1, 0, 1, next, &ra, &rb), ETRU_MODULUS_PART_OUT_OF_RANGE);
+
+        const int64_t value = sign * ETRU_VALUE_LIMIT, next_value = sign * (ETRU_VALUE_LIMIT + 1);
+        expect("ETRU_VALUE_LIMIT", etru_reduce_q(value, value, 15, 0, &ra, &rb), ETRU_OK);
+        expect("ETRU_VALUE_LIMIT + 1, a", etru_reduce_q(next_value, 0, 15, 0, &ra, &rb), ETRU_VALUE_OUT_OF_RANGE);
+        expect("ETRU_VALUE_LIMIT + 1, b", etru_reduce_q(0, next_value, 15, 0, &ra, &rb), ETRU_VALUE_OUT_OF_RANGE);
+        expect("ETRU_VALUE_LIMIT", etru_reduce_2(value, value, &ra, &rb), ETRU_OK);
+        expect("ETRU_VALUE_LIMIT + 1, a", etru_reduce_2(next_value, 0, &ra, &rb), ETRU_VALUE_OUT_OF_RANGE);
+        expect("ETRU_VALUE_LIMIT + 1, b", etru_reduce_2(0, next_value, &ra, &rb), ETRU_VALUE_OUT_OF_RANGE);
+    }
+}
+
+int main(void) {
+    n = ETRU_MIN_N;
+    try_lengths();
+    n = ETRU_MAX_N;
+    try_lengths();
+    try_macros();
+    try_limits();
+    printf("%u passed, %u failed\n", passed, failed);
+    return failed != 0;
+}
