@@ -11,7 +11,7 @@ pub const LINE_BYTES: usize = 515;
 
 /// The numbers of an array: 2N.
 #[must_use]
-pub const fn array_length(n: u32) -> usize {
+pub const fn array_numbers(n: u32) -> usize {
     (n as usize).saturating_mul(2)
 }
 
@@ -23,14 +23,14 @@ pub const fn message_bytes(n: u32) -> usize {
 
 /// The numbers of all arrays of a file: 2N, and 8N for a private one.
 #[must_use]
-pub const fn number_count(kind: Kind, n: u32) -> usize {
-    array_length(n).saturating_mul(array_count(kind))
+pub const fn file_numbers(kind: Kind, n: u32) -> usize {
+    array_numbers(n).saturating_mul(array_count(kind))
 }
 
 /// The bytes of a file: 16 + 4N, and 16 + 16N for a private one.
 #[must_use]
-pub const fn file_length(kind: Kind, n: u32) -> usize {
-    number_count(kind, n).saturating_mul(2).saturating_add(16)
+pub const fn file_bytes(kind: Kind, n: u32) -> usize {
+    file_numbers(kind, n).saturating_mul(2).saturating_add(16)
 }
 
 const fn array_count(kind: Kind) -> usize {

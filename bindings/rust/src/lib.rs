@@ -28,11 +28,11 @@
 //! let g = [1, 0, 0, 1, -1, -1];
 //! let phi = g;
 //!
-//! let mut h = [0; etru::array_length(3)];
+//! let mut h = [0; etru::array_numbers(3)];
 //! etru::check_key(p, &one, &one, &one, &g, &mut h)?;
 //! assert_eq!(h, g);
 //!
-//! let mut e = [0; etru::array_length(3)];
+//! let mut e = [0; etru::array_numbers(3)];
 //! etru::seal(p, &h, &phi, &[0xB0], &mut e)?;
 //! assert_eq!(e, [7, 0, -1, 5, -6, -6]);
 //!
@@ -46,8 +46,8 @@
 //! assert_eq!(e, [7, 0, -1, 5, -6, -6]);
 //!
 //! // The private file and directly after it the sealed file, as the opening program reads them.
-//! let mut files = [0; etru::file_length(Kind::Private, 3) + etru::file_length(Kind::Sealed, 3)];
-//! let (private, sealed) = files.split_at_mut(etru::file_length(Kind::Private, 3));
+//! let mut files = [0; etru::file_bytes(Kind::Private, 3) + etru::file_bytes(Kind::Sealed, 3)];
+//! let (private, sealed) = files.split_at_mut(etru::file_bytes(Kind::Private, 3));
 //! etru::write(Kind::Private, p, &[one, one, one, g].concat(), private)?;
 //! etru::write(Kind::Sealed, p, &e, sealed)?;
 //! let mut line = [0; etru::LINE_BYTES];
@@ -71,7 +71,7 @@ mod parameters;
 mod refusals;
 mod sys;
 
-pub use lengths::{array_length, file_length, message_bytes, number_count, LINE_BYTES};
+pub use lengths::{array_numbers, file_bytes, file_numbers, message_bytes, LINE_BYTES};
 pub use parameters::Parameters;
 use refusals::outcome;
 pub use refusals::{Error, Refusal};
@@ -284,7 +284,7 @@ pub fn unpack(n: u32, m: &[i32], message: &mut [u8]) -> Result<(), Error> {
 }
 
 /// The parameters of a file of the wanted kind, from its head alone, the first 16 bytes: they tell
-/// how long the file is and how many numbers it holds ([`file_length`], [`number_count`]).
+/// how long the file is and how many numbers it holds ([`file_bytes`], [`file_numbers`]).
 ///
 /// # Errors
 ///

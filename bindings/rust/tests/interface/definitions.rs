@@ -319,11 +319,11 @@ fn array_count(kind: Kind) -> usize {
     }
 }
 
-pub fn number_count(kind: Kind, n: u32) -> usize {
+pub fn file_numbers(kind: Kind, n: u32) -> usize {
     2 * n as usize * array_count(kind)
 }
 
-pub fn file_length(kind: Kind, n: u32) -> usize {
+pub fn file_bytes(kind: Kind, n: u32) -> usize {
     16 + 4 * n as usize * array_count(kind)
 }
 
@@ -363,7 +363,7 @@ pub fn read(kind: Kind, file: &[u8], room: usize) -> Result<Vec<i32>, u32> {
     let p = read_head(kind, file)?;
     refuse(
         7,
-        file.len() != file_length(kind, p.n) || room != number_count(kind, p.n),
+        file.len() != file_bytes(kind, p.n) || room != file_numbers(kind, p.n),
     )?;
     let pairs = file[16..].chunks(2);
     let numbers: Vec<i32> = pairs
@@ -377,7 +377,7 @@ pub fn write(kind: Kind, p: Parameters, numbers: &[i32], room: usize) -> Result<
     check_parameters(p)?;
     refuse(
         7,
-        room != file_length(kind, p.n) || numbers.len() != number_count(kind, p.n),
+        room != file_bytes(kind, p.n) || numbers.len() != file_numbers(kind, p.n),
     )?;
     check_arrays(kind, p, numbers)?;
     let mut file = b"EIZ\x00\x01".to_vec();
@@ -395,11 +395,11 @@ pub fn write(kind: Kind, p: Parameters, numbers: &[i32], room: usize) -> Result<
 
 fn open_both(input: &[u8]) -> Result<Vec<u8>, u32> {
     let p = read_head(Kind::Private, input)?;
-    let end = file_length(Kind::Private, p.n).min(input.len());
+    let end = file_bytes(Kind::Private, p.n).min(input.len());
     let (first, second) = input.split_at(end);
-    let key = read(Kind::Private, first, number_count(Kind::Private, p.n))?;
+    let key = read(Kind::Private, first, file_numbers(Kind::Private, p.n))?;
     let sealed = read_head(Kind::Sealed, second)?;
-    let e = read(Kind::Sealed, second, number_count(Kind::Sealed, sealed.n))?;
+    let e = read(Kind::Sealed, second, file_numbers(Kind::Sealed, sealed.n))?;
     refuse(20, p != sealed)?;
     let arrays: Vec<&[i32]> = key.chunks(2 * p.n as usize).collect();
     check_inverses(p, arrays[0], arrays[1], arrays[2])?;

@@ -4,7 +4,7 @@
 use etru::Kind;
 
 use crate::calls;
-use crate::definitions::file_length;
+use crate::definitions::file_bytes;
 use crate::document_01::{private_file, SEALED_FILE};
 use crate::drawing::Rng;
 use crate::keys::Key;
@@ -12,8 +12,8 @@ use crate::keys::Key;
 /// The private file of a key, and a sealed file of its parameters.
 fn files_of(rng: &mut Rng, key: &Key) -> (Vec<u8>, Vec<u8>) {
     let p = key.p;
-    let mut private = vec![0; file_length(Kind::Private, p.n)];
-    let mut sealed = vec![0; file_length(Kind::Sealed, p.n)];
+    let mut private = vec![0; file_bytes(Kind::Private, p.n)];
+    let mut sealed = vec![0; file_bytes(Kind::Sealed, p.n)];
     etru::write(Kind::Private, p, &key.numbers(), &mut private).expect("the key is right");
     etru::write(Kind::Sealed, p, &rng.reduced_q(p), &mut sealed).expect("it is reduced");
     (private, sealed)

@@ -19,21 +19,18 @@ fn numbers_of_kinds() {
 #[test]
 fn lengths_of_arrays_messages_and_files() {
     for n in (0..=1100).chain([65535, u32::MAX - 1, u32::MAX]) {
-        assert_eq!(etru::array_length(n), 2 * n as usize);
+        assert_eq!(etru::array_numbers(n), 2 * n as usize);
         assert_eq!(etru::message_bytes(n), definitions::message_bytes(n));
         for kind in [Kind::Public, Kind::Private, Kind::Sealed] {
             assert_eq!(
-                etru::number_count(kind, n),
-                definitions::number_count(kind, n)
+                etru::file_numbers(kind, n),
+                definitions::file_numbers(kind, n)
             );
-            assert_eq!(
-                etru::file_length(kind, n),
-                definitions::file_length(kind, n)
-            );
+            assert_eq!(etru::file_bytes(kind, n), definitions::file_bytes(kind, n));
         }
     }
-    assert_eq!(etru::file_length(Kind::Private, 3), 64);
-    assert_eq!(etru::file_length(Kind::Sealed, 3), 28);
+    assert_eq!(etru::file_bytes(Kind::Private, 3), 64);
+    assert_eq!(etru::file_bytes(Kind::Sealed, 3), 28);
 }
 
 #[test]

@@ -4,7 +4,7 @@
 use etru::{Kind, Parameters};
 
 use crate::calls;
-use crate::definitions::{file_length, message_bytes, number_count};
+use crate::definitions::{file_bytes, file_numbers, message_bytes};
 use crate::drawing::{without_spare_bits, Rng};
 use crate::keys::{Key, Modulus};
 
@@ -45,10 +45,10 @@ fn one_key(rng: &mut Rng, key: &Key) {
 
 /// Writes a file and reads it back.
 fn file(rng: &mut Rng, kind: Kind, p: Parameters, numbers: &[i32]) -> Vec<u8> {
-    let length = file_length(kind, p.n);
+    let length = file_bytes(kind, p.n);
     let file = calls::write(rng, kind, p, numbers, length).expect("all is in its set");
     assert_eq!(calls::read_head(kind, &file), Ok(p));
-    let read = calls::read(rng, kind, &file, number_count(kind, p.n));
+    let read = calls::read(rng, kind, &file, file_numbers(kind, p.n));
     assert_eq!(read.as_deref(), Ok(numbers));
     file
 }

@@ -395,9 +395,9 @@ fn refusal_15_spare_bit_set() {
 
 fn file_is_refused(kind: Kind, file: &[u8], refusal: Refusal, number: u32) {
     is_refused(etru::read_head(kind, file), refusal, number);
-    let mut numbers = vec![77; etru::number_count(kind, 3)];
+    let mut numbers = vec![77; etru::file_numbers(kind, 3)];
     is_refused(etru::read(kind, file, &mut numbers), refusal, number);
-    assert_eq!(numbers, vec![77; etru::number_count(kind, 3)]);
+    assert_eq!(numbers, vec![77; etru::file_numbers(kind, 3)]);
 }
 
 #[test]

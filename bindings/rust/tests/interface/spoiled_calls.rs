@@ -6,7 +6,7 @@ use std::collections::BTreeSet;
 use etru::{Kind, Parameters};
 
 use crate::calls;
-use crate::definitions::{file_length, message_bytes, number_count};
+use crate::definitions::{file_bytes, file_numbers, message_bytes};
 use crate::drawing::Rng;
 use crate::keys::Key;
 
@@ -191,7 +191,7 @@ fn about(rng: &mut Rng, length: usize) -> usize {
 
 fn write(rng: &mut Rng, kind: Kind, p: Parameters, numbers: &[i32]) -> Result<Vec<u8>, u32> {
     let n = p.n.min(Parameters::MAX_N);
-    let room = about(rng, file_length(kind, n));
+    let room = about(rng, file_bytes(kind, n));
     calls::write(rng, kind, p, numbers, room)
 }
 
@@ -251,7 +251,7 @@ fn read(rng: &mut Rng, kind: Kind, p: Parameters, numbers: &[i32]) -> Result<Vec
     let mut file = file_of(kind as u8, p, numbers);
     damage(rng, &mut file);
     let _ = calls::read_head(kind, &file);
-    let room = about(rng, number_count(kind, p.n.min(Parameters::MAX_N)));
+    let room = about(rng, file_numbers(kind, p.n.min(Parameters::MAX_N)));
     calls::read(rng, kind, &file, room)
 }
 
