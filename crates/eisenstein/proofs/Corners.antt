@@ -1,20 +1,20 @@
 -- The four corners from the first: the others are less q, qω and q(1 + ω). What the code's `first_corner` and `best_corner` compute.
-use mathlib.Core.Path.{_≡_, refl, sym, _∙_, ap, ap₂, subst}
+use mathlib.Core.Path.{_≡_, sym, _∙_, ap, ap₂}
 use mathlib.Core.Logic.{_≢_}
-use Prim.Native.Nat.{ℕ, zero, suc, _+_, _*_, _^_, _≤_, _<_}
+use Prim.Native.Nat.{_*_, _^_, _≤_}
 use native.Mathlib.Omega.{arith}
-use native.Mathlib.Nat.{mul-le-mul, mul-add, le-of-mul-le-mul-left, le-refl}
-use lib.IntN.{ℤ, pos, negℤ, natAbs, _+ℤ_, _-ℤ_, _*ℤ_}
-use lib.Signed.{shrZ, quotZ}
-use Rattle.integers.proofs.Ring.{ring, con, _⊕_, _⊝_, _⊗_, ⊖_, _⊜_}
-use Rattle.integers.proofs.Floor.{floor, floorRest, floorRest-lt}
-use Rattle.integers.proofs.Absolute.{natAbs-+, natAbs--, natAbs-*}
-use Rattle.integers.proofs.Machine.{quotient}
+use native.Mathlib.Nat.{mul-assoc, le-of-mul-le-mul-right}
+use lib.IntN.{ℤ, pos, natAbs, _+ℤ_, _-ℤ_, _*ℤ_}
+use lib.Signed.{shrZ}
+use Rattle.integers.proofs.Ring.{_⊕_, _⊝_, _⊗_, ⊖_}
+use Rattle.integers.proofs.Floor.{floorRest, floorRest-lt}
+use Rattle.integers.proofs.Absolute.{natAbs--, square-le}
 use Rattle.eisenstein.specs.Values.{ℤ[ω], value, 𝟘, _+ω_, _-ω_, _*ω_, norm}
 use Rattle.eisenstein.specs.Reduction.{conj, cell, corner, best, modQ}
 use Rattle.eisenstein.proofs.Solver.{ringω, parts, conω, _≐_, _⊞_, _⊟_, _⊠_}
-use Rattle.eisenstein.proofs.Norms.{form, norm-form}
-use Rattle.eisenstein.proofs.Remainders.{norm-pos, α, β}
+use Rattle.eisenstein.proofs.Norms.{norm-bound, part-a, part-b}
+use Rattle.eisenstein.proofs.Cover.{offset}
+use Rattle.eisenstein.proofs.Remainders.{norm-pos, α, β, corner-scaled}
 
 -- the corners by what they differ from the first, part by part as the code has them
 abbrev pub less10 : ℤ[ω] → ℤ[ω] → ℤ[ω]
@@ -46,54 +46,43 @@ unfolding modQ corner
 best-corner-is q x =
     ap₂ best (ap (best (corner q x 0 0)) (sym (corner10 x q (cell q x)))) (ap₂ best (sym (corner01 x q (cell q x))) (sym (corner11 x q (cell q x))))
 
--- ---- the first corner, times n
+-- ---- the first corner, as the code has it
 
--- (x·conj(q) less n·k)·q, with n the norm of q
-times-q : (x q k : ℤ[ω]) → value ((x *ω conj q) .a -ℤ (form q *ℤ k .a)) ((x *ω conj q) .b -ℤ (form q *ℤ k .b)) *ω q ≡ value (form q *ℤ (x -ω q *ω (k +ω value (pos 0) (pos 0))) .a) (form q *ℤ (x -ω q *ω (k +ω value (pos 0) (pos 0))) .b)
+-- the parts of x·conj(q)
+abbrev left : ℤ[ω] → ℤ[ω] → ℤ
+left q x = (x .a *ℤ (q .a -ℤ q .b)) +ℤ (x .b *ℤ q .b)
+
+abbrev right : ℤ[ω] → ℤ[ω] → ℤ
+right q x = (x .b *ℤ q .a) -ℤ (x .a *ℤ q .b)
+
+parts-are : (q x : ℤ[ω]) → value (left q x) (right q x) ≡ x *ω conj q
+unfolding _*ω_
+parts-are =
+    ringω 2 (λ q x. parts (x .a ⊗ (q .a ⊝ q .b) ⊕ x .b ⊗ q .b) (x .b ⊗ q .a ⊝ x .a ⊗ q .b) ≐ x ⊠ parts (q .a ⊝ q .b) (⊖ (q .b))) tt
+
+corner00 : (x q k : ℤ[ω]) → x -ω k *ω q ≡ x -ω q *ω (k +ω value (pos 0) (pos 0))
 unfolding _+ω_ _-ω_ _*ω_
-times-q =
-    ringω 3
-    (λ x q k. let c = parts (q .a ⊝ q .b) (⊖ (q .b)) in let f = q .a ⊗ q .a ⊝ q .a ⊗ q .b ⊕ q .b ⊗ q .b in let r = x ⊟ q ⊠ (k ⊞ conω (value (pos 0) (pos 0))) in parts ((x ⊠ c) .a ⊝ f ⊗ k .a) ((x ⊠ c) .b ⊝ f ⊗ k .b) ⊠ q ≐ parts (f ⊗ r .a) (f ⊗ r .b))
-    tt
+corner00 = ringω 3 (λ x q k. x ⊟ k ⊠ q ≐ x ⊟ q ⊠ (k ⊞ conω (value (pos 0) (pos 0)))) tt
 
-rest-is : (n k r X : ℤ) → X ≡ (n *ℤ k) +ℤ r → X -ℤ (n *ℤ k) ≡ r
-rest-is n k r X e = ap (λ (y : ℤ). y -ℤ (n *ℤ k)) e ∙ cancel n k r
-  where
-    cancel : (n k r : ℤ) → ((n *ℤ k) +ℤ r) -ℤ (n *ℤ k) ≡ r
-    cancel = ring 3 (λ n k r. n ⊗ k ⊕ r ⊝ n ⊗ k ⊜ r) tt
-
-pub first-corner-is : (q x : ℤ[ω]) → q ≢ 𝟘 → value (pos (α q x)) (pos (β q x)) *ω q ≡ value (pos (norm q) *ℤ corner q x 0 0 .a) (pos (norm q) *ℤ corner q x 0 0 .b)
+pub first-corner-is : (q x : ℤ[ω]) → x -ω value (shrZ (left q x) (norm q)) (shrZ (right q x) (norm q)) *ω q ≡ corner q x 0 0
 unfolding corner cell
-first-corner-is q x h =
-    sym
-    (ap₂ (λ (u v : ℤ). value u v *ω q)
-    (ap (λ (f : ℤ). (x *ω conj q) .a -ℤ (f *ℤ cell q x .a)) (norm-form q) ∙ rest-is (pos (norm q)) (cell q x .a) (pos (α q x)) ((x *ω conj q) .a) (floor ((x *ω conj q) .a) (norm q) (norm-pos q h)))
-    (ap (λ (f : ℤ). (x *ω conj q) .b -ℤ (f *ℤ cell q x .b)) (norm-form q) ∙ rest-is (pos (norm q)) (cell q x .b) (pos (β q x)) ((x *ω conj q) .b) (floor ((x *ω conj q) .b) (norm q) (norm-pos q h))))
-    ∙ times-q x q (cell q x)
-    ∙ ap (λ (f : ℤ). value (f *ℤ corner q x 0 0 .a) (f *ℤ corner q x 0 0 .b)) (norm-form q)
+first-corner-is q x =
+    ap (λ (y : ℤ[ω]). x -ω value (shrZ (y .a) (norm q)) (shrZ (y .b) (norm q)) *ω q) (parts-are q x) ∙ corner00 x q (cell q x)
 
 -- ---- the first corner is small, since α and β are below n
 
-times-below : (n r : ℕ) (z : ℤ) → r ≤ n → natAbs (pos r *ℤ z) ≤ n * natAbs z
-times-below n r z h = subst (λ (k : ℕ). k ≤ n * natAbs z) (sym (natAbs-* (pos r) z)) (mul-le-mul h (le-refl (natAbs z)))
-
 module _ (q x : ℤ[ω]) (nonzero : q ≢ 𝟘) where
-  α-below : (z : ℤ) → natAbs (pos (α q x) *ℤ z) ≤ norm q * natAbs z
-  α-below z = times-below (norm q) (α q x) z (omega (arith, floorRest-lt ((x *ω conj q) .a) (norm q) (norm-pos q nonzero)))
+  below : (y : ℤ) → natAbs (pos (floorRest y (norm q)) -ℤ (pos (norm q) *ℤ pos 0)) ≤ norm q
+  below y =
+      omega (arith, natAbs-- (pos (floorRest y (norm q))) (pos (norm q) *ℤ pos 0), floorRest-lt y (norm q) (norm-pos q nonzero))
 
-  β-below : (z : ℤ) → natAbs (pos (β q x) *ℤ z) ≤ norm q * natAbs z
-  β-below z = times-below (norm q) (β q x) z (omega (arith, floorRest-lt ((x *ω conj q) .b) (norm q) (norm-pos q nonzero)))
-
-  pub corner-size-a : natAbs (corner q x 0 0 .a) ≤ natAbs (q .a) + natAbs (q .b)
-  unfolding _*ω_
-  corner-size-a =
-      le-of-mul-le-mul-left
-      (omega (arith, natAbs-* (pos (norm q)) (corner q x 0 0 .a), ap (λ (y : ℤ[ω]). natAbs (y .a)) (first-corner-is q x nonzero), natAbs-- (pos (α q x) *ℤ q .a) (pos (β q x) *ℤ q .b), α-below (q .a), β-below (q .b), mul-add (norm q) (natAbs (q .a)) (natAbs (q .b))))
+  corner-norm : norm (corner q x 0 0) ≤ 3 * norm q
+  corner-norm =
+      le-of-mul-le-mul-right
+      (omega (arith, corner-scaled q x nonzero 0 0, norm-bound (offset (norm q) (α q x) (β q x) (pos 0) (pos 0)) (norm q) (below _) (below _), mul-assoc 3 (norm q) (norm q)))
       (norm-pos q nonzero)
 
-  pub corner-size-b : natAbs (corner q x 0 0 .b) ≤ natAbs (q .b) + natAbs (q .a) + natAbs (q .b)
-  unfolding _*ω_
-  corner-size-b =
-      le-of-mul-le-mul-left
-      (omega (arith, natAbs-* (pos (norm q)) (corner q x 0 0 .b), ap (λ (y : ℤ[ω]). natAbs (y .b)) (first-corner-is q x nonzero), natAbs-- ((pos (α q x) *ℤ q .b) +ℤ (pos (β q x) *ℤ q .a)) (pos (β q x) *ℤ q .b), natAbs-+ (pos (α q x) *ℤ q .b) (pos (β q x) *ℤ q .a), α-below (q .b), β-below (q .a), β-below (q .b), mul-add (norm q) (natAbs (q .b) + natAbs (q .a)) (natAbs (q .b)), mul-add (norm q) (natAbs (q .b)) (natAbs (q .a))))
-      (norm-pos q nonzero)
+  pub corner-size : natAbs (q .a) ≤ 4095 → natAbs (q .b) ≤ 4095 → (natAbs (corner q x 0 0 .a) ≤ 2 ^ 14) × (natAbs (corner q x 0 0 .b) ≤ 2 ^ 14)
+  corner-size h k =
+      let n : norm (corner q x 0 0) ≤ 9 * (4095 * 4095) = omega (arith, corner-norm, norm-bound q 4095 h k) in
+      (square-le (omega (arith, part-a (corner q x 0 0))), square-le (omega (arith, part-b (corner q x 0 0))))

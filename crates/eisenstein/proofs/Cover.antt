@@ -1,14 +1,14 @@
 -- The plane is covered: of a point (α, β) of the square of side n, some corner of the square has at most a third of n² for the norm of its difference, and no other lattice point has.
-use mathlib.Core.Path.{_≡_, refl, sym, _∙_, ap, ap₂, subst}
-use mathlib.Core.Logic.{_⊎_, inl, inr, ⊎-elim}
+use mathlib.Core.Path.{_≡_, refl, ap, ap₂, subst}
+use mathlib.Core.Logic.{_⊎_, inl, inr}
 use Prim.Native.Nat.{ℕ, zero, suc, _+_, _-_, _*_, _≤_, _<_}
 use native.Mathlib.Omega.{arith}
 use native.Mathlib.Decide.{decLe}
 use native.Mathlib.Nat.{mul-le-mul, mul-le-mul-left}
-use lib.IntN.{ℤ, pos, negsuc, negℤ, natAbs, _+ℤ_, _-ℤ_, _*ℤ_, negℤ-negℤ}
-use Rattle.integers.proofs.Ring.{ring, con, _⊕_, _⊝_, _⊗_, ⊖_, _⊜_}
+use lib.IntN.{ℤ, pos, negsuc, natAbs, _+ℤ_, _-ℤ_, _*ℤ_, negℤ-negℤ}
+use Rattle.integers.proofs.Ring.{ring, con, _⊕_, _⊝_, _⊗_, _⊜_}
 use Rattle.integers.proofs.Absolute.{square-le}
-use Rattle.integers.proofs.Order.{natAbs-parts, parts--, above-pos, below-pos, above, below}
+use Rattle.integers.proofs.Order.{natAbs-parts, parts--, above-pos, below-pos}
 use Rattle.eisenstein.specs.Values.{ℤ[ω], value, norm}
 use Rattle.eisenstein.proofs.Norms.{norm-is, norm-swap, part-a, part-b}
 

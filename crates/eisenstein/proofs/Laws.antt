@@ -1,7 +1,6 @@
 -- The laws of the ring Z[ω] and of classes modulo q.
-use mathlib.Core.Path.{_≡_, refl, sym, _∙_, ap, ap₂, subst}
-use lib.IntN.{ℤ, pos, negℤ}
-use Rattle.eisenstein.specs.Values.{ℤ[ω], value, 𝟘, _+ω_, _-ω_, _*ω_, Congruent}
+use mathlib.Core.Path.{_≡_, sym, _∙_, ap}
+use Rattle.eisenstein.specs.Values.{ℤ[ω], 𝟘, _+ω_, _-ω_, _*ω_, Congruent}
 use Rattle.eisenstein.proofs.Solver.{ringω, _≐_, _⊞_, _⊟_, _⊠_, conω}
 
 pub +ω-assoc : (x y z : ℤ[ω]) → (x +ω y) +ω z ≡ x +ω (y +ω z)

@@ -9,3 +9,5 @@ pub mod Modulo2
 pub mod Units
 pub mod Corners
 pub mod Limits
+pub mod Pairs
+pub mod Neighbours

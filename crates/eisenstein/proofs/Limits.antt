@@ -1,6 +1,6 @@
 -- A value whose parts are within a limit, from the test.
 use mathlib.Core.Path.{_≡_, sym, _∙_, ap₂, subst}
-use mathlib.Core.Bool.{Bool, true, false, not, _||_}
+use mathlib.Core.Bool.{Bool, false, not, _||_}
 use mathlib.Core.Logic.{_≢_}
 use Prim.Native.Nat.{ℕ, _^_, _≤_}
 use borrow.Author.Tests.{le-ltb}

@@ -1,21 +1,21 @@
 -- The remainder modulo 2 is in the value's class, and is the same for a whole class.
 use mathlib.Core.Path.{_≡_, refl, sym, _∙_, ap, ap₂, subst}
 use mathlib.Core.Bool.{Bool, true, false, not, cond, _&&_}
-use Prim.Native.Nat.{ℕ, zero, suc, _+_, _*_, _/_, _%_, _≤_, _<_}
+use Prim.Native.Nat.{ℕ, zero, suc, _+_, _*_, _/_, _%_, _<_}
 use native.Mathlib.Omega.{arith}
 use lib.Dec.{T, eqb, eqb→eq}
-use lib.IntN.{ℤ, pos, negsuc, negℤ, natAbs, _+ℤ_, _-ℤ_, _*ℤ_}
+use lib.IntN.{ℤ, pos, negsuc, negℤ, _+ℤ_, _*ℤ_}
 use lib.Signed.{remZ}
 use mir.Syntax.{w64}
 use mir.Val.{ofZ}
 use mir.Facts.{and-yes}
-use Rattle.integers.proofs.Ring.{ring, con, _⊕_, _⊝_, _⊗_, ⊖_, _⊜_}
-use Rattle.integers.proofs.Order.{above, below, parts-eq, eq-parts, parts-+, above-pos, below-pos}
-use Rattle.eisenstein.specs.Values.{ℤ[ω], value, 𝟘, _+ω_, _*ω_, Congruent}
+use Rattle.integers.proofs.Ring.{ring, con, _⊕_, _⊗_, ⊖_, _⊜_}
+use Rattle.integers.proofs.Order.{eq-parts, parts-+, above-pos, below-pos}
+use Rattle.eisenstein.specs.Values.{ℤ[ω], value, _+ω_, _*ω_, Congruent}
 use Rattle.eisenstein.specs.Reduction.{bit, mod2}
 use Rattle.eisenstein.specs.Promises.{Mod2-in-class, Mod2-by-class}
 use Rattle.eisenstein.proofs.Laws.{congruent-trans}
-use Rattle.eisenstein.proofs.Solver.{ringω, conω, parts, _≐_, _⊞_, _⊟_, _⊠_}
+use Rattle.eisenstein.proofs.Solver.{ringω, conω, parts, _≐_, _⊞_, _⊠_}
 
 -- half of what is left of z without its last bit
 half : ℤ → ℤ

@@ -1,8 +1,8 @@
 -- Laws of the norm: it is a² − ab + b², multiplicative, zero only at zero, and bounds each part.
-use mathlib.Core.Path.{_≡_, refl, sym, _∙_, ap, ap₂, subst}
+use mathlib.Core.Path.{_≡_, refl, sym, _∙_, ap, ap₂}
 use Prim.Native.Nat.{ℕ, zero, suc, _+_, _*_, _≤_, _<_}
 use native.Mathlib.Omega.{arith}
-use native.Mathlib.Nat.{mul-le-mul}
+use native.Mathlib.Nat.{mul-le-mul, mul-le-mul-right}
 use lib.IntN.{ℤ, pos, negsuc, negℤ, natAbs, _+ℤ_, _-ℤ_, _*ℤ_}
 use Rattle.integers.proofs.Ring.{ring, con, _⊕_, _⊝_, _⊗_, ⊖_, _⊜_}
 use Rattle.integers.proofs.Absolute.{square, square-zero, natAbs-zero, natAbs-+, natAbs--, natAbs-*}
@@ -64,6 +64,18 @@ part-a x = omega (arith, four-norm x)
 
 pub part-b : (x : ℤ[ω]) → 3 * (natAbs (x .b) * natAbs (x .b)) ≤ 4 * norm x
 part-b x = omega (arith, part-a (value (x .b) (x .a)), norm-swap (x .a) (x .b))
+
+-- no part is above the norm
+part-le : (m n : ℕ) → 3 * (m * m) ≤ 4 * n → m ≤ n
+part-le zero n h = omega arith
+part-le (suc zero) n h = omega arith
+part-le (suc (suc m)) n h = omega (arith, mul-le-mul-right {m = 2} {n = suc (suc m)} (suc (suc m)) (omega arith))
+
+pub part-a-le : (x : ℤ[ω]) → natAbs (x .a) ≤ norm x
+part-a-le x = part-le (natAbs (x .a)) (norm x) (part-a x)
+
+pub part-b-le : (x : ℤ[ω]) → natAbs (x .b) ≤ norm x
+part-b-le x = part-le (natAbs (x .b)) (norm x) (part-b x)
 
 pub norm-zero : (x : ℤ[ω]) → norm x ≡ 0 → x ≡ 𝟘
 norm-zero x h =

@@ -1,22 +1,22 @@
 -- The remainder modulo q: `modQ` computes it, it is the only one, and small values are their own.
-use mathlib.Core.Path.{_≡_, refl, sym, _∙_, ap, ap₂, subst}
+use mathlib.Core.Path.{_≡_, sym, _∙_, ap, ap₂, subst}
 use mathlib.Core.Logic.{_≢_}
-use Prim.Native.Nat.{ℕ, zero, suc, _+_, _*_, _^_, _≤_, _<_}
+use Prim.Native.Nat.{ℕ, _*_, _^_, _≤_, _<_}
 use native.Mathlib.Omega.{arith}
 use native.Mathlib.Decide.{decLe, ℕ-discrete}
 use native.Mathlib.Nat.{mul-le-mul-right, mul-le-mul-left, mul-assoc, le-of-mul-le-mul-right}
-use lib.IntN.{ℤ, pos, negℤ, natAbs, _+ℤ_, _-ℤ_, _*ℤ_}
+use lib.IntN.{ℤ, pos, natAbs, _+ℤ_, _-ℤ_, _*ℤ_}
 use lib.Signed.{shrZ}
-use Rattle.integers.proofs.Ring.{ring, con, _⊕_, _⊝_, _⊗_, ⊖_, _⊜_}
+use Rattle.integers.proofs.Ring.{ring, _⊕_, _⊝_, _⊗_, ⊖_, _⊜_}
 use Rattle.integers.proofs.Absolute.{square-le}
 use Rattle.integers.proofs.Floor.{floor, floorRest, floorRest-lt}
 use Rattle.eisenstein.specs.Values.{ℤ[ω], value, 𝟘, _+ω_, _-ω_, _*ω_, norm, Congruent}
-use Rattle.eisenstein.specs.Reduction.{AsGood, smaller-norm, larger-a, larger-b, Remainder, conj, cell, corner, best, modQ}
+use Rattle.eisenstein.specs.Reduction.{AsGood, smaller-norm, Remainder, conj, cell, corner, modQ}
 use Rattle.eisenstein.specs.Promises.{ModQ-is-remainder, Remainder-unique, Remainder-norm, Small-is-remainder}
 use Rattle.eisenstein.proofs.Solver.{ringω, parts, _≐_, _⊞_, _⊟_, _⊠_}
 use Rattle.eisenstein.proofs.Laws.{less-multiple, in-class-is, congruent-refl, *ω-zero, +ω-zero}
 use Rattle.eisenstein.proofs.Norms.{form, norm-form, norm-*, norm-conj, norm-zero, norm-bound, part-a, part-b, parallelogram}
-use Rattle.eisenstein.proofs.TieRule.{as-good-refl, as-good-trans, as-good-antisym, best-good, best-ind}
+use Rattle.eisenstein.proofs.TieRule.{as-good-norm, as-good-refl, as-good-trans, as-good-antisym, best-good, best-ind}
 use Rattle.eisenstein.proofs.Cover.{Corner, c00, c10, c01, c11, offset, Near, some-near, IsCorner, only-corners}
 
 pub norm-pos : (q : ℤ[ω]) → q ≢ 𝟘 → 0 < norm q
@@ -66,7 +66,7 @@ module _ (q x : ℤ[ω]) (nonzero : q ≢ 𝟘) where
   index-is : (k i : ℤ) → (k +ℤ i) -ℤ k ≡ i
   index-is = ring 2 (λ k i. k ⊕ i ⊝ k ⊜ i) tt
 
-  corner-scaled : (i j : ℕ) → norm (corner q x i j) * norm q ≡ norm (offset (norm q) (α q x) (β q x) (pos i) (pos j))
+  pub corner-scaled : (i j : ℕ) → norm (corner q x i j) * norm q ≡ norm (offset (norm q) (α q x) (β q x) (pos i) (pos j))
   unfolding corner _+ω_
   corner-scaled i j =
       scaled (cell q x +ω value (pos i) (pos j))
@@ -86,11 +86,6 @@ module _ (q x : ℤ[ω]) (nonzero : q ≢ 𝟘) where
     where
       at : (i j : ℕ) → Congruent q x (corner q x i j)
       at i j = less-multiple q x (cell q x +ω value (pos i) (pos j))
-
-  as-good-norm : {r s : ℤ[ω]} → AsGood r s → norm r ≤ norm s
-  as-good-norm (smaller-norm h) = omega arith
-  as-good-norm (larger-a e h) = omega arith
-  as-good-norm (larger-b e f h) = omega arith
 
   modQ-norm : 3 * norm (modQ q x) ≤ norm q
   modQ-norm =
@@ -148,7 +143,7 @@ remainder-norm q x r h k =
 -- ---- small values
 
 -- the difference of two values of a class is a multiple of q
-difference : (x y : ℤ[ω]) → (x +ω y) -ω x ≡ y
+pub difference : (x y : ℤ[ω]) → (x +ω y) -ω x ≡ y
 unfolding _+ω_ _-ω_
 difference = ringω 2 (λ x y. (x ⊞ y) ⊟ x ≐ y) tt
 

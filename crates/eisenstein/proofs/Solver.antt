@@ -5,9 +5,9 @@ use mathlib.Core.Bool.{Bool, _&&_}
 use mathlib.Core.List.{List, [], _∷_, _++_}
 use Prim.Native.Nat.{ℕ, zero, suc}
 use lib.Dec.{T}
-use lib.IntN.{ℤ, pos}
+use lib.IntN.{ℤ}
 use mir.Facts.{and-yes}
-use Rattle.integers.proofs.Ring.{Expr, var, con, _⊕_, _⊝_, _⊗_, ⊖_, _⊜_, eval, holds, sound}
+use Rattle.integers.proofs.Ring.{Expr, var, con, _⊕_, _⊝_, _⊗_, _⊜_, eval, holds, sound}
 use Rattle.eisenstein.specs.Values.{ℤ[ω], value}
 
 pub record Exprω : Type 0 where

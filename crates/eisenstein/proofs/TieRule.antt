@@ -1,19 +1,24 @@
 -- Laws of the tie rule: "at least as good" is a total order, and `best` of two is one of them and as good as both.
 use mathlib.Core.Path.{_≡_, refl, sym, _∙_, ap, ap₂, subst}
 use mathlib.Core.Bool.{Bool, true, false, not, cond, _&&_, _||_}
-use mathlib.Core.Logic.{_⊎_, inl, inr, ⊎-elim}
-use Prim.Native.Nat.{ℕ, _+_, _≤_, _<_}
+use mathlib.Core.Logic.{⊎-elim}
+use Prim.Native.Nat.{ℕ, _≤_, _<_}
 use native.Mathlib.Omega.{arith}
-use native.Mathlib.Decide.{decLt, ℕ-discrete}
+use native.Mathlib.Decide.{ℕ-discrete}
 use borrow.Author.Tests.{lt-ltb, le-ltb, eq-eqb, ne-eqb}
-use lib.Dec.{T, eqb, ltb, eqb→eq, eqb-refl}
-use lib.IntN.{ℤ, pos, negsuc}
-use lib.Signed.{_≤ℤ_, _<ℤ_, ltZ, ≤ℤ-refl, ltZ-yes, ltZ-no, clashℤ}
-use mir.Facts.{and-yes, and-no, or-yes, or-no, ltb-yes, ltb-no, eqb-yes, T-not}
+use lib.Dec.{T, eqb, ltb, eqb-refl}
+use lib.IntN.{ℤ}
+use lib.Signed.{_≤ℤ_, _<ℤ_, ltZ, ≤ℤ-refl, ltZ-yes, ltZ-no}
+use mir.Facts.{and-yes, or-yes, or-no, ltb-yes, ltb-no, eqb-yes}
 use Rattle.integers.proofs.Order.{orders, less-or-equal, ≤ℤ-antisym, ≤ℤ-trans, <ℤ-trans, <ℤ-≢, <ℤ-asym, eq-parts}
 use Rattle.eisenstein.specs.Values.{ℤ[ω], value, norm, sameℤ}
 use Rattle.eisenstein.proofs.Equality.{sameℤ-yes, sameℤ-refl, is-true, is-false}
 use Rattle.eisenstein.specs.Reduction.{AsGood, smaller-norm, larger-a, larger-b, better, best}
+
+pub as-good-norm : {r s : ℤ[ω]} → AsGood r s → norm r ≤ norm s
+as-good-norm (smaller-norm h) = omega arith
+as-good-norm (larger-a e h) = omega arith
+as-good-norm (larger-b e f h) = omega arith
 
 pub as-good-refl : (r : ℤ[ω]) → AsGood r r
 as-good-refl r = larger-b refl refl (≤ℤ-refl (r .b))

@@ -1,5 +1,5 @@
 -- The product of units, by one test over all thirty-six products.
-use Prim.Native.Nat.{ℕ, _+_, _%_, _<_}
+use Prim.Native.Nat.{_+_, _%_}
 use lib.Dec.{T}
 use Rattle.integers.proofs.Tests.{every, every-at}
 use Rattle.eisenstein.specs.Values.{unit, _*ω_, same, sameℤ}

@@ -1,6 +1,6 @@
 -- The outcomes of the calls on one value (document 01, 'Where each number is checked').
 use mathlib.Core.Bool.{Bool, _||_}
-use mathlib.Core.List.{List, [], _∷_}
+use mathlib.Core.List.{[], _∷_}
 use Prim.Native.Nat.{ℕ, _^_}
 use lib.Dec.{ltb}
 use lib.IntN.{ℤ, natAbs}

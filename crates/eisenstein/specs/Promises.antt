@@ -1,4 +1,4 @@
--- What is promised of the definitions, each proved in proofs/Promises.antt.
+-- What is promised of the definitions, each proved in proofs/: Units, Remainders and Modulo2.
 use mathlib.Core.Path.{_≡_}
 use mathlib.Core.Logic.{_≢_}
 use Prim.Native.Nat.{ℕ, _+_, _*_, _%_, _≤_, _<_}

@@ -1,11 +1,11 @@
 -- Document 01, 'Reduction'.
 use mathlib.Core.Path.{_≡_}
-use mathlib.Core.Bool.{Bool, true, false, cond, _&&_, _||_}
+use mathlib.Core.Bool.{Bool, cond, _&&_, _||_}
 use Prim.Native.Nat.{ℕ, _%_, _<_}
 use lib.Dec.{eqb, ltb}
 use lib.IntN.{ℤ, pos, negsuc, natAbs, negℤ, _-ℤ_}
-use lib.Signed.{_<ℤ_, _≤ℤ_, ltZ, leZ, shrZ}
-use Rattle.eisenstein.specs.Values.{ℤ[ω], value, 𝟘, _+ω_, _-ω_, _*ω_, norm, Congruent, sameℤ}
+use lib.Signed.{_<ℤ_, _≤ℤ_, ltZ, shrZ}
+use Rattle.eisenstein.specs.Values.{ℤ[ω], value, _+ω_, _-ω_, _*ω_, norm, Congruent, sameℤ}
 
 -- Modulo q: "the value of the same class with the smallest norm; of several, the one with the larger a, then the larger b".
 -- r is at least as good as s:

@@ -1,12 +1,12 @@
-// The ring Z[ω]: the six units, and one value reduced modulo q or modulo 2.
+// The ring Z[ω]: the six units, the norm, one value reduced modulo q or modulo 2, and whether a value is its own remainder.
 // Arrays of values and parameter sets are not this crate's business.
 ghost use mathlib.Core.Path.{_≡_};
+ghost use mathlib.Core.Bool.{not, _&&_, _||_};
 ghost use mathlib.Core.Logic.{_≢_};
 ghost use Prim.Native.Nat.{_≤_, _<_, _%_, _^_};
 ghost use lib.Dec.{ltb, eqb};
 ghost use lib.IntN.{pos, natAbs, _+ℤ_, _-ℤ_};
-ghost use lib.Signed.{_<ℤ_, _≤ℤ_};
-ghost use Rattle.integers.proofs.Floor.{floorRest};
+ghost use lib.Signed.{_<ℤ_, ltZ, leZ, shrZ};
 ghost use Rattle.eisenstein.specs.Values.{value, 𝟘, norm, unit, same};
 ghost use Rattle.eisenstein.specs.Reduction.{better, best, corner, modQ, mod2, bit};
 ghost use Rattle.eisenstein.specs.Calls.{beyond, reduceQ, reduce2, answered};
@@ -42,9 +42,9 @@ pub enum Reduced {
 }
 
 // A value whose parts need more room.
-struct Wide {
-    a: i64,
-    b: i64,
+pub struct Wide {
+    pub a: i64,
+    pub b: i64,
 }
 
 fn wide_norm(a: i64, b: i64) -> i64
@@ -63,12 +63,12 @@ pub fn norm(a: i16, b: i16) -> u32
     wide_norm(aw, bw) as u32
 }
 
-// What division by n, rounded down, leaves of x.
-fn floor_rest(x: i64, n: i64) -> i64
-    requires { ⌜ (natAbs x ≤ 2 ^ 60) × (natAbs n ≤ 2 ^ 60) × (pos 0 <ℤ n) ⌝ }
-    ensures { λ r. ⌜ r ≡ pos (floorRest x (natAbs n)) ⌝ }
+// x divided by n, rounded down.
+fn floor_quotient(x: i64, n: i64) -> i64
+    requires { ⌜ (natAbs x ≤ 2 ^ 60) × (pos 0 <ℤ n) ⌝ }
+    ensures { λ r. ⌜ r ≡ shrZ x (natAbs n) ⌝ }
 {
-    if x < 0 { n - 1 - (-1 - x) % n } else { x % n }
+    if x < 0 { -1 - (-1 - x) / n } else { x / n }
 }
 
 // Whether x is below −limit or above it.
@@ -119,16 +119,17 @@ fn best(r: Wide, s: Wide) -> Wide
     Wide { a: ra, b: rb }
 }
 
-// n·corner is (x, y)·q for what (a, b)·conj(q) leaves over n at each part, so each division is exact.
+// (a, b) less q·(z, w), for q = (c, d) of the norm n and z, w the parts of (a, b)·conj(q) over n, rounded down. No part of q is above n, so its product with z or w is little above what was divided.
 fn first_corner(a: i64, b: i64, c: i64, d: i64, n: i64) -> Wide
     requires { ⌜ (natAbs a ≤ 2 ^ 40) × (natAbs b ≤ 2 ^ 40) × (natAbs c ≤ 4095) × (natAbs d ≤ 4095) × (value c d ≢ 𝟘) × (n ≡ pos (norm (value c d))) ⌝ }
     ensures { λ r. ⌜ (value (r .a) (r .b) ≡ corner (value c d) (value a b) 0 0) × (natAbs (r .a) ≤ 2 ^ 14) × (natAbs (r .b) ≤ 2 ^ 14) ⌝ }
 {
-    let x = floor_rest(a * (c - d) + b * d, n);
-    let y = floor_rest(b * c - a * d, n);
+    let z = floor_quotient(a * (c - d) + b * d, n);
+    let w = floor_quotient(b * c - a * d, n);
+    let wd = w * d;
     Wide {
-        a: (x * c - y * d) / n,
-        b: (x * d + y * c - y * d) / n,
+        a: a - (z * c - wd),
+        b: b - (z * d + w * c - wd),
     }
 }
 
@@ -218,6 +219,70 @@ pub fn modulus_out_of_range(c: i32, d: i32) -> bool
     let cw = c as i64;
     let dw = d as i64;
     beyond(cw, dw, MODULUS_LIMIT)
+}
+
+// Whether r is as good as r − w, where w = (a, b) has the norm n and r·conj(w) the trace t: the norm of r − w is that of r, less t, plus n.
+fn as_good(t: i64, n: i64, a: i64, b: i64) -> bool
+    ensures { λ r. ⌜ r ≡ (ltZ t n || (not (ltZ n t) && (ltZ (pos 0) a || (not (ltZ a (pos 0)) && leZ (pos 0) b)))) ⌝ }
+{
+    if t < n {
+        return true;
+    }
+    if n < t {
+        return false;
+    }
+    if 0 < a {
+        return true;
+    }
+    if a < 0 {
+        return false;
+    }
+    0 <= b
+}
+
+// Whether r = (a, b) is as good as its six neighbours r − q·unit, for q = (c, d): x, y and x + y are the traces with q, qω and q(1 + ω).
+fn unbeaten(a: i64, b: i64, c: i64, d: i64) -> bool
+    requires { ⌜ (natAbs a ≤ 2 ^ 31) × (natAbs b ≤ 2 ^ 31) × (natAbs c ≤ 4095) × (natAbs d ≤ 4095) × (value c d ≢ 𝟘) ⌝ }
+    ensures { λ r. ⌜ r ≡ same (modQ (value c d) (value a b)) (value a b) ⌝ }
+{
+    let n = wide_norm(c, d);
+    let e = c + c - d;
+    let x = a * e + b * (d + d - c);
+    let y = b * e - a * (c + d);
+    if !as_good(x, n, c, d) {
+        return false;
+    }
+    if !as_good(0 - x, n, 0 - c, 0 - d) {
+        return false;
+    }
+    if !as_good(y, n, 0 - d, c - d) {
+        return false;
+    }
+    if !as_good(0 - y, n, d, d - c) {
+        return false;
+    }
+    if !as_good(x + y, n, c - d, c) {
+        return false;
+    }
+    if !as_good(0 - x - y, n, d - c, 0 - c) {
+        return false;
+    }
+    true
+}
+
+// Whether (a, b) is its own remainder modulo q = (c, d), where 2 and 21 do not refuse q: none of its six neighbours (a, b) − q·unit is better. Needs no division.
+pub fn is_remainder(a: i32, b: i32, c: i32, d: i32) -> bool
+    ensures { λ r. ⌜ r ≡ (not (beyond 4095 (value c d)) && (not (same (value c d) 𝟘) && same (modQ (value c d) (value a b)) (value a b))) ⌝ }
+{
+    if modulus_out_of_range(c, d) {
+        return false;
+    }
+    let cw = c as i64;
+    let dw = d as i64;
+    if is_zero(cw, dw) {
+        return false;
+    }
+    unbeaten(a as i64, b as i64, cw, dw)
 }
 
 // One value (a, b) modulo q = (c, d): refusals 2, 21, 22, or the remainder.

@@ -1,22 +1,30 @@
 -- What a parameter set that passes its checks gives.
 use mathlib.Core.Path.{_≡_, ap}
-use mathlib.Core.Bool.{false, _&&_}
+use mathlib.Core.Bool.{false, not, _&&_, _||_}
 use mathlib.Core.Logic.{_≢_}
-use Prim.Native.Nat.{_≤_, _<_}
+use Prim.Native.Nat.{_%_, _≤_, _<_}
 use native.Mathlib.Omega.{arith}
-use lib.Dec.{ltb}
+use lib.Dec.{ltb, eqb}
+use mir.Syntax.{w32}
+use mir.Val.{SFits, toZ, ofZ}
 use mir.Facts.{ltb-yes}
+use Rattle.integers.proofs.Tests.{neither-first}
 use Rattle.refusals.specs.Outcomes.{done, outcome}
 use Rattle.refusals.proofs.Checks.{done-passed, done-holds}
-use Rattle.eisenstein.specs.Values.{𝟘, norm}
+use Rattle.eisenstein.specs.Values.{value, 𝟘, norm}
 use Rattle.eisenstein.specs.Calls.{beyond}
-use Rattle.parameters.specs.Sets.{ParameterSet, outside, even, bound, parameterChecks}
+use Rattle.eisenstein.proofs.Pairs.{pair-read}
+use Rattle.parameters.specs.declared.Parameters.{Parameters}
+use Rattle.parameters.specs.Sets.{ParameterSet, setOf, outside, even, bound, parameterChecks}
 use Rattle.parameters.proofs.Ranges.{in-range}
+use Rattle.etru.proofs.Sizes.{modulus-in-range, modulus-not-zero}
 
 pub record Accepted (p : ParameterSet) : Type 0 where
   pub checks : outcome (parameterChecks p) (tt {0}) ≡ done (tt {0})
   pub N-small : p .N ≤ 1024
   pub q-small : beyond 4095 (p .q) ≡ false
+  pub s-small : p .s ≤ p .N
+  pub t-small : p .t ≤ p .N
   pub below : bound p < norm (p .q)
 
 pub accepted-parameters : (p : ParameterSet) → outcome (parameterChecks p) (tt {0}) ≡ done (tt {0}) → Accepted p
@@ -25,11 +33,27 @@ accepted-parameters p e =
     let c1 = done-passed 1 (outside 3 1024 (p .N)) _ _ _ e in
     let c2 = done-passed 2 (beyond 4095 (p .q)) _ _ _ (c1 .1) in
     let c3 = done-passed 3 (even (p .q .a) && even (p .q .b)) _ _ _ (c2 .1) in
-    let c4 = done-passed 4 _ _ _ _ (c3 .1) in
+    let c4 = done-passed 4 (outside 3 (p .N) (p .s) || not (eqb (p .s % 3) 0)) _ _ _ (c3 .1) in
     let c5 = done-passed 5 (outside 1 (p .N) (p .t)) _ _ _ (c4 .1) in
     let c6 = done-holds 6 (ltb (bound p) (norm (p .q))) _ _ _ (c5 .1) in
-    record { checks = e; N-small = in-range 3 1024 (p .N) (c1 .0); q-small = c2 .0; below = ltb-yes (c6 .0) }
+    record {
+      checks = e;
+      N-small = in-range 3 1024 (p .N) (c1 .0);
+      q-small = c2 .0;
+      s-small = in-range 3 (p .N) (p .s) (neither-first (outside 3 (p .N) (p .s)) _ (c4 .0));
+      t-small = in-range 1 (p .N) (p .t) (c5 .0);
+      below = ltb-yes (c6 .0);
+    }
 
 pub modulus-nonzero : (p : ParameterSet) → Accepted p → p .q ≢ 𝟘
 unfolding norm
 modulus-nonzero p h e = omega (arith, ap norm e, h .below)
+
+-- ---- the accepted set's modulus, as it is handed to a callee
+
+module _ (p : Parameters) (f : SFits w32 (p .c)) (g : SFits w32 (p .d)) where
+  pub modulus-read : value (toZ w32 (ofZ w32 (p .c))) (toZ w32 (ofZ w32 (p .d))) ≡ setOf p .q
+  modulus-read = pair-read f g
+
+  pub accepted-requires : Accepted (setOf p) → (p .n ≤ 1024) × (beyond 4095 (value (toZ w32 (ofZ w32 (p .c))) (toZ w32 (ofZ w32 (p .d)))) ≡ false) × (value (toZ w32 (ofZ w32 (p .c))) (toZ w32 (ofZ w32 (p .d))) ≢ 𝟘)
+  accepted-requires a = (a .N-small, modulus-in-range f g (a .q-small), modulus-not-zero f g (modulus-nonzero (setOf p) a))

@@ -1,4 +1,6 @@
 pub mod Scans
+pub mod Changing
+pub mod RotatedSums
 pub mod Sizes
 pub mod Passed
 pub mod AcceptedParameters

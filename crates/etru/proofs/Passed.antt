@@ -1,4 +1,4 @@
--- What the checks of each call leave, where all are passed: lengths, and numbers small enough to compute with.
+-- What the checks of each call leave, where all are passed: lengths, numbers small enough to compute with, and arrays of zeros and units.
 use mathlib.Core.Path.{_≡_}
 use mathlib.Core.Bool.{false, _&&_}
 use mathlib.Core.List.{List}
@@ -20,12 +20,17 @@ use Rattle.polynomials.proofs.Members.{sum-zero-units}
 use Rattle.packing.specs.Messages.{messageBytes}
 use Rattle.packing.specs.Calls.{packingChecks, unpackingChecks}
 use Rattle.etru.specs.Calls.{full, convolvingChecks, keyChecks, sealingChecks, openingChecks}
-use Rattle.etru.proofs.Sizes.{Small, units-small, reduced2-small, reducedQ-small}
+use Rattle.etru.proofs.Sizes.{Small, AllUnits, reducedQ-small, units-all, reduced2-all}
 
 -- an array of full length, whose numbers are small
 pub record Ready (N : ℕ) (l : List ℤ) : Type 0 where
   pub long : length l ≡ 2 * N
   pub small : Small l
+
+-- an array of full length, of zeros and units
+pub record Units (N : ℕ) (l : List ℤ) : Type 0 where
+  pub long : length l ≡ 2 * N
+  pub units : AllUnits N (coefficient l)
 
 module _ (N : ℕ) (q : ℤ[ω]) (q-small : beyond 4095 q ≡ false) (q-nonzero : q ≢ 𝟘) where
   remainders : (l : List ℤ) → length l ≡ 2 * N → T (reducedQ N q (coefficient l)) → Ready N l
@@ -47,7 +52,7 @@ module _ (N : ℕ) (q : ℤ[ω]) (q-small : beyond 4095 q ≡ false) (q-nonzero 
 
   pub record Sealing (h φ : List ℤ) (message : List ℕ) (room : ℕ) : Type 0 where
     pub h-ready : Ready N h
-    pub φ-ready : Ready N φ
+    pub φ-units : Units N φ
     pub message-is : length message ≡ messageBytes N
     pub room-is : room ≡ 2 * N
 
@@ -60,14 +65,14 @@ module _ (N : ℕ) (q : ℤ[ω]) (q-small : beyond 4095 q ≡ false) (q-nonzero 
       let l = are-equal-4 (length message) (messageBytes N) (length h) (2 * N) (length φ) (2 * N) room (2 * N) (k7 .0) in
       record {
         h-ready = remainders h (l .1) (k12 .0);
-        φ-ready = record { long = l .2; small = units-small N s φ (l .2) (sum-zero-units N s (coefficient φ) (k10 .0)) };
+        φ-units = record { long = l .2; units = units-all N s (coefficient φ) (sum-zero-units N s (coefficient φ) (k10 .0)) };
         message-is = l .0;
         room-is = l .3;
       }
 
   pub record Opening (f F2 e : List ℤ) (room : ℕ) : Type 0 where
-    pub f-ready : Ready N f
-    pub F2-ready : Ready N F2
+    pub f-units : Units N f
+    pub F2-units : Units N F2
     pub e-ready : Ready N e
     pub room-is : room ≡ messageBytes N
 
@@ -80,15 +85,15 @@ module _ (N : ℕ) (q : ℤ[ω]) (q-small : beyond 4095 q ≡ false) (q-nonzero 
       let k12 = done-holds 12 (reducedQ N q (coefficient e)) _ _ _ (k11 .1) in
       let l = are-equal-4 room (messageBytes N) (length f) (2 * N) (length F2) (2 * N) (length e) (2 * N) (k7 .0) in
       record {
-        f-ready = record { long = l .1; small = units-small N t f (l .1) (k8 .0) };
-        F2-ready = record { long = l .2; small = reduced2-small N F2 (l .2) (k11 .0) };
+        f-units = record { long = l .1; units = units-all N t (coefficient f) (k8 .0) };
+        F2-units = record { long = l .2; units = reduced2-all N (coefficient F2) (k11 .0) };
         e-ready = remainders e (l .3) (k12 .0);
         room-is = l .0;
       }
 
 pub record Checking (p : ParameterSet) (Fq g : List ℤ) (room : ℕ) : Type 0 where
   pub Fq-ready : Ready (p .N) Fq
-  pub g-ready : Ready (p .N) g
+  pub g-units : Units (p .N) g
   pub room-is : room ≡ 2 * p .N
 
 pub key-passed : (p : ParameterSet) → beyond 4095 (p .q) ≡ false → p .q ≢ 𝟘 → (f F2 Fq g : List ℤ) (room : ℕ) → outcome (keyChecks p f F2 Fq g room) (tt {0}) ≡ done (tt {0}) → Checking p Fq g room
@@ -102,7 +107,7 @@ key-passed p q-small q-nonzero f F2 Fq g room d =
     let l = are-equal-5 (length f) (2 * p .N) (length F2) (2 * p .N) (length Fq) (2 * p .N) (length g) (2 * p .N) room (2 * p .N) (k7 .0) in
     record {
       Fq-ready = remainders (p .N) (p .q) q-small q-nonzero Fq (l .2) (k12 .0);
-      g-ready = record { long = l .3; small = units-small (p .N) (p .s) g (l .3) (sum-zero-units (p .N) (p .s) (coefficient g) (k9 .0)) };
+      g-units = record { long = l .3; units = units-all (p .N) (p .s) (coefficient g) (sum-zero-units (p .N) (p .s) (coefficient g) (k9 .0)) };
       room-is = l .4;
     }
 

@@ -1,38 +1,52 @@
 -- How large the numbers of an array can be, from the test that it passed.
-use mathlib.Core.Path.{_≡_, sym, subst}
-use mathlib.Core.Bool.{false}
+use mathlib.Core.Path.{_≡_, sym, _∙_, ap, ap₂, subst}
+use mathlib.Core.Bool.{true, false, not, _||_}
 use mathlib.Core.List.{List}
 use mathlib.Core.Logic.{_≢_}
 use Prim.Native.Nat.{ℕ, _+_, _*_, _/_, _%_, _^_, _≤_, _<_}
 use native.Mathlib.Omega.{arith}
 use native.Mathlib.Nat.{le-trans}
 use native.Mathlib.Decide.{ℕ-discrete, decLe}
-use lib.Dec.{T, lit<, lit≤}
+use lib.Dec.{T, eqb, leb, lit<, lit≤}
 use lib.IntN.{ℤ, pos, natAbs}
-use lib.ListN.{length, getD, List·getD-eq-default}
-use mir.Syntax.{w64}
-use mir.Val.{toZ, ofZ}
-use mir.Facts.{toZ-ofZ}
+use lib.ListN.{length, getD, take, replicate, List·getD-eq-default}
+use lib.Seq.{length-take-le}
+use mir.Syntax.{Width, w64}
+use mir.Val.{SFits, toZ, ofZ}
+use mir.Facts.{and-yes, toZ-ofZ}
 use Rattle.integers.proofs.Machine.{sfits-within}
 use Rattle.integers.proofs.Absolute.{square-le}
-use Rattle.eisenstein.specs.Values.{ℤ[ω], 𝟘}
+use Rattle.eisenstein.specs.Values.{ℤ[ω], value, 𝟘, units}
 use Rattle.eisenstein.specs.Reduction.{modQ}
 use Rattle.eisenstein.specs.Calls.{beyond}
+use Rattle.eisenstein.proofs.Equality.{is-true}
 use Rattle.eisenstein.proofs.Limits.{within}
 use Rattle.eisenstein.proofs.Norms.{part-a, part-b}
+use Rattle.eisenstein.proofs.Pairs.{pair-read}
 use Rattle.eisenstein.proofs.Remainders.{modQ-is-remainder, remainder-size}
-use Rattle.polynomials.specs.Polynomials.{Polynomial, coefficient, array, unitsOnly, reducedQ, reduced2}
+use Rattle.polynomials.specs.Polynomials.{Polynomial, coefficient, array, all, count, nonzero, among, unitsOnly, reducedQ, reduced2}
 use Rattle.polynomials.proofs.Arrays.{coefficient-array, array-length}
 use Rattle.polynomials.proofs.Bounds.{Within}
-use Rattle.polynomials.proofs.Members.{units-within, reducedQ-at, reduced2-within}
+use Rattle.polynomials.proofs.Members.{at-all, units-within, reducedQ-at, reduced2-at, reduced2-within, mod2-unit}
 
 -- ---- a number as it is handed to a callee
 
-pub read-64 : (z : ℤ) → natAbs z ≤ 2 ^ 40 → toZ w64 (ofZ w64 z) ≡ z
-read-64 z h = toZ-ofZ (sfits-within z h (lit< tt))
+pub read-64 : (z : ℤ) {m : ℕ} → natAbs z ≤ m → T (leb m (2 ^ 40)) → toZ w64 (ofZ w64 z) ≡ z
+read-64 z h t = toZ-ofZ (sfits-within z (le-trans h (lit≤ t)) (lit< tt))
 
-pub small-64 : (z : ℤ) → natAbs z ≤ 2 ^ 40 → natAbs (toZ w64 (ofZ w64 z)) ≤ 2 ^ 40
-small-64 z h = subst (λ (y : ℤ). natAbs y ≤ 2 ^ 40) (sym (read-64 z h)) h
+pub small-64 : (z : ℤ) {m : ℕ} → natAbs z ≤ m → T (leb m (2 ^ 40)) → natAbs (toZ w64 (ofZ w64 z)) ≤ 2 ^ 40
+small-64 z h t = subst (λ (y : ℤ). natAbs y ≤ 2 ^ 40) (sym (read-64 z h t)) (le-trans h (lit≤ t))
+
+-- coefficient i of l, of which `at` read both parts
+pub coefficient-read : (l : List ℤ) (i : ℕ) {a b : ℤ} → (a ≡ getD l (2 * i) (pos 0)) × (natAbs a ≤ 2 ^ 31) → (b ≡ getD l (2 * i + 1) (pos 0)) × (natAbs b ≤ 2 ^ 31) → value (toZ w64 (ofZ w64 a)) (toZ w64 (ofZ w64 b)) ≡ coefficient l i
+unfolding coefficient
+coefficient-read l i {a} {b} f g = ap₂ value (read-64 a (f .1) tt ∙ f .0) (read-64 b (g .1) tt ∙ g .0)
+
+pub modulus-in-range : {w : Width} {c d : ℤ} → SFits w c → SFits w d → beyond 4095 (value c d) ≡ false → beyond 4095 (value (toZ w (ofZ w c)) (toZ w (ofZ w d))) ≡ false
+modulus-in-range f g h = ap (beyond 4095) (pair-read f g) ∙ h
+
+pub modulus-not-zero : {w : Width} {c d : ℤ} → SFits w c → SFits w d → value c d ≢ 𝟘 → value (toZ w (ofZ w c)) (toZ w (ofZ w d)) ≢ 𝟘
+modulus-not-zero f g n e = n (sym (pair-read f g) ∙ e)
 
 -- ---- every number of an array, from its coefficients
 
@@ -79,3 +93,21 @@ reducedQ-small N q l b n e u = from-parts N l e (λ i p. subst PartsSmall (reduc
 
 pub remainders-small : (N : ℕ) (q : ℤ[ω]) (x : Polynomial) → beyond 4095 q ≡ false → q ≢ 𝟘 → Small (array N (λ i. modQ q (x i)))
 remainders-small N q x b n = from-parts N (array N (λ i. modQ q (x i))) (array-length N (λ i. modQ q (x i))) (λ i p. subst PartsSmall (sym (coefficient-array N (λ i. modQ q (x i)) i p)) (modQ-small q (x i) b n))
+
+-- ---- arrays of zeros and units
+
+abbrev pub AllUnits : ℕ → Polynomial → Type 0
+AllUnits N x = all N (λ i. not (nonzero (x i)) || among units (x i)) ≡ true
+
+pub units-all : (N t : ℕ) (x : Polynomial) → T (unitsOnly N t x) → AllUnits N x
+unfolding unitsOnly
+units-all N t x h = is-true (all N (λ i. not (nonzero (x i)) || among units (x i))) (and-yes (eqb (count N (λ i. nonzero (x i))) t) _ h .1)
+
+pub reduced2-all : (N : ℕ) (x : Polynomial) → T (reduced2 N x) → AllUnits N x
+reduced2-all N x h =
+    is-true (all N (λ i. not (nonzero (x i)) || among units (x i))) (at-all N (λ i. not (nonzero (x i)) || among units (x i)) (λ i p. subst (λ (y : ℤ[ω]). T (not (nonzero y) || among units y)) (reduced2-at N x h i p) (mod2-unit (x i))))
+
+-- ---- the part of 2N numbers of an array for the largest N
+
+pub zeros-part : (n : ℕ) (l : List ℤ) → n ≤ 1024 → l ≡ replicate 2048 (pos 0) → length (take (2 * n) l) ≡ 2 * n
+zeros-part n l h e = length-take-le (2 * n) l (omega (arith, ap length e))

@@ -31,6 +31,13 @@ convolving p x y room =
     outcome (parameterChecks p ++ convolvingChecks (p .N) (p .q) x y room)
     (array (p .N) (λ i. modQ (p .q) (convolution (p .N) (coefficient x) (coefficient y) i)))
 
+-- The key check's last two: "f × F2 not 1 modulo 2", "f × Fq not 1 modulo q".
+abbrev pub inverseChecks : ℕ → ℤ[ω] → (f F2 Fq : List ℤ) → List Check
+inverseChecks N q f F2 Fq =
+    13 if not (congruent2 N (convolution N (coefficient f) (coefficient F2)) one)
+    ∷ 14 if not (congruentQ N q (convolution N (coefficient f) (coefficient Fq)) one)
+    ∷ []
+
 -- "Key check: 8, 11, 12, 9, 13, 14." It writes h.
 unfoldable pub keyChecks : ParameterSet → (f F2 Fq g : List ℤ) → ℕ → List Check
 keyChecks p f F2 Fq g room =
@@ -39,9 +46,7 @@ keyChecks p f F2 Fq g room =
     ∷ 11 if not (reduced2 (p .N) (coefficient F2))
     ∷ 12 if not (reducedQ (p .N) (p .q) (coefficient Fq))
     ∷ 9 if not (unitsOfSumZero (p .N) (p .s) (coefficient g))
-    ∷ 13 if not (congruent2 (p .N) (convolution (p .N) (coefficient f) (coefficient F2)) one)
-    ∷ 14 if not (congruentQ (p .N) (p .q) (convolution (p .N) (coefficient f) (coefficient Fq)) one)
-    ∷ []
+    ∷ inverseChecks (p .N) (p .q) f F2 Fq
 
 unfoldable pub keyCheck : ParameterSet → (f F2 Fq g : List ℤ) → ℕ → Outcome (List ℤ)
 keyCheck p f F2 Fq g room =

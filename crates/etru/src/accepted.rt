@@ -20,6 +20,8 @@ use crate::checks::opening_refusal;
 use crate::checks::sealing_refusal;
 use crate::opened::open_into;
 use crate::products::convolve_q;
+use crate::products::reduce_all_q;
+use crate::rotations::convolve_units;
 use crate::sealed::seal_into;
 use refusals::Answer;
 
@@ -53,7 +55,8 @@ pub(crate) fn check_key(
 {
     match key_refusal(f, f2, fq, g, n, c, d, s, t, h.len()) {
         Answer::Done => {
-            convolve_q(fq, g, n, c, d, h);
+            convolve_units(g, fq, n, h);
+            reduce_all_q(h, n, c, d);
             Answer::Done
         }
         Answer::Refused(refusal) => Answer::Refused(refusal),

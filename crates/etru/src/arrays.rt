@@ -5,11 +5,7 @@ ghost use lib.IntN.{pos, natAbs};
 ghost use lib.ListN.{length, getD};
 ghost use Rattle.eisenstein.specs.Values.{value, _*ω_};
 ghost use Rattle.polynomials.specs.Polynomials.{coefficient, sum};
-
-pub(crate) struct Wide {
-    pub(crate) a: i64,
-    pub(crate) b: i64,
-}
+use eisenstein::Wide;
 
 // One number of an array.
 pub(crate) fn at(x: &[i32], k: usize) -> i64
@@ -19,20 +15,21 @@ pub(crate) fn at(x: &[i32], k: usize) -> i64
     x[k] as i64
 }
 
-// The product of coefficients j of x and k of y.
+// The product of coefficients j of x and k of y, by three multiplications of numbers.
 pub(crate) fn product(x: &[i32], y: &[i32], j: usize, k: usize) -> Wide
     requires { ⌜ (j < 2048) × (k < 2048) × (2 * j + 1 < length (now x)) × (2 * k + 1 < length (now y)) ⌝ }
     requires { ⌜ ((i : ℕ) → natAbs (getD (now x) i (pos 0)) ≤ 2 ^ 13) ⌝ }
     requires { ⌜ ((i : ℕ) → natAbs (getD (now y) i (pos 0)) ≤ 2 ^ 13) ⌝ }
-    ensures { λ r. ⌜ (value (r .a) (r .b) ≡ coefficient (now (x .entry)) j *ω coefficient (now (y .entry)) k) × (natAbs (r .a) ≤ 2 ^ 28) × (natAbs (r .b) ≤ 2 ^ 28) ⌝ }
+    ensures { λ r. ⌜ (value (r .a) (r .b) ≡ coefficient (now (x .entry)) j *ω coefficient (now (y .entry)) k) × (natAbs (r .a) ≤ 2 ^ 29) × (natAbs (r .b) ≤ 2 ^ 29) ⌝ }
 {
     let xa = at(x, 2 * j);
     let xb = at(x, 2 * j + 1);
     let ya = at(y, 2 * k);
     let yb = at(y, 2 * k + 1);
+    let first = xa * ya;
     Wide {
-        a: xa * ya - xb * yb,
-        b: xa * yb + xb * ya - xb * yb,
+        a: first - xb * yb,
+        b: first - (xa - xb) * (ya - yb),
     }
 }
 
@@ -41,7 +38,7 @@ pub(crate) fn dot(x: &[i32], y: &[i32], from: usize, to: usize, base: usize) -> 
     requires { ⌜ (from ≤ to) × (to ≤ 1024) × (to ≤ base + 1) × (2 * to ≤ length (now x)) × (2 * (base + 1 - from) ≤ length (now y)) × (base < 2048) ⌝ }
     requires { ⌜ ((i : ℕ) → natAbs (getD (now x) i (pos 0)) ≤ 2 ^ 13) ⌝ }
     requires { ⌜ ((i : ℕ) → natAbs (getD (now y) i (pos 0)) ≤ 2 ^ 13) ⌝ }
-    ensures { λ r. ⌜ (value (r .a) (r .b) ≡ sum (to - from) (λ j. coefficient (now (x .entry)) (from + j) *ω coefficient (now (y .entry)) (base - (from + j)))) × (natAbs (r .a) ≤ (to - from) * 2 ^ 28) × (natAbs (r .b) ≤ (to - from) * 2 ^ 28) ⌝ }
+    ensures { λ r. ⌜ (value (r .a) (r .b) ≡ sum (to - from) (λ j. coefficient (now (x .entry)) (from + j) *ω coefficient (now (y .entry)) (base - (from + j)))) × (natAbs (r .a) ≤ (to - from) * 2 ^ 29) × (natAbs (r .b) ≤ (to - from) * 2 ^ 29) ⌝ }
 {
     let mut a: i64 = 0;
     let mut b: i64 = 0;

@@ -15,8 +15,8 @@ ghost use Rattle.packing.specs.Messages.{messageBytes};
 ghost use Rattle.packing.specs.Calls.{packingChecks, unpackingChecks};
 ghost use Rattle.etru.specs.Calls.{full, convolvingChecks, keyChecks, sealingChecks, openingChecks, inSet, notInSet, arrayChecks};
 use crate::ArraySet;
-use crate::inverses::is_one_2;
-use crate::inverses::is_one_q;
+use crate::inverses::inverse_refusal;
+use crate::message_bytes;
 use crate::messages::spare_bit_set;
 use crate::sets::reduced_modulo_2;
 use crate::sets::reduced_modulo_q;
@@ -50,20 +50,12 @@ fn full_5(n: usize, x: usize, y: usize, z: usize, u: usize, v: usize) -> bool
     false
 }
 
-// "N/4 bytes, rounded up"
-fn message_bytes(n: usize) -> usize
-    requires { ⌜ n ≤ 1024 ⌝ }
-    ensures { λ r. ⌜ r ≡ messageBytes n ⌝ }
-{
-    (n + 3) / 4
-}
-
 // A message's length, and three arrays of full length.
 fn full_with_message(n: usize, message: usize, x: usize, y: usize, z: usize) -> bool
     requires { ⌜ n ≤ 1024 ⌝ }
     ensures { λ r. ⌜ r ≡ (eqb message (messageBytes n) && (full n x && (full n y && full n z))) ⌝ }
 {
-    if message == message_bytes(n) {
+    if message == message_bytes(n as u32) {
         return full_3(n, x, y, z);
     }
     false
@@ -74,7 +66,7 @@ fn full_message_and_array(n: usize, message: usize, x: usize) -> bool
     requires { ⌜ n ≤ 1024 ⌝ }
     ensures { λ r. ⌜ r ≡ (eqb message (messageBytes n) && full n x) ⌝ }
 {
-    if message == message_bytes(n) {
+    if message == message_bytes(n as u32) {
         return x == 2 * n;
     }
     false
@@ -196,13 +188,7 @@ pub(crate) fn key_refusal(
     if !units_of_sum_zero(g, n, s) {
         return Answer::Refused(Refusal::GNotInItsSet);
     }
-    if !is_one_2(f, f2, n) {
-        return Answer::Refused(Refusal::NotInverseModulo2);
-    }
-    if !is_one_q(f, fq, n, c, d) {
-        return Answer::Refused(Refusal::NotInverseModuloQ);
-    }
-    Answer::Done
+    inverse_refusal(f, f2, fq, n, c, d)
 }
 
 pub(crate) fn packing_refusal(n: u32, message: &[u8], room: usize) -> Answer

@@ -1,11 +1,14 @@
-// The scheme: convolution modulo q, key check, sealing and opening.
-// Each call ends with `Done`, or with document 01's first refusal that applies, and then its output is as it came.
-// At every N `open` takes 17 KiB of stack, and each other call less than 1 KiB.
+// The scheme: convolution modulo q, key check, sealing and opening, packing and unpacking, and the test of one array.
+// It draws no random numbers, makes no key and knows no file.
+// Each call that answers ends with `Done`, or with document 01's first refusal that applies, and then its output is as it came.
+// At every N `open` takes 57 KiB of stack, `check_key` 49 KiB, `seal` 41 KiB, and each other call less than 1 KiB.
 ghost use mathlib.Core.Path.{_≡_};
-ghost use lib.ListN.{length};
+ghost use lib.IntN.{pos};
+ghost use lib.ListN.{length, replicate};
 ghost use Rattle.refusals.specs.Outcomes.{number, written};
 ghost use Rattle.refusals.specs.Numbers.{answered};
 ghost use Rattle.parameters.specs.Sets.{setOf};
+ghost use Rattle.packing.specs.Messages.{messageBytes};
 ghost use Rattle.packing.specs.Calls.{packing, unpacking};
 ghost use Rattle.etru.specs.Calls.{convolving, keyCheck, sealing, opening, arrayCheck};
 
@@ -16,6 +19,7 @@ mod inverses;
 mod messages;
 mod opened;
 mod products;
+mod rotations;
 mod sealed;
 mod sets;
 
@@ -28,6 +32,20 @@ pub enum ArraySet {
     G,
     ReducedModulo2,
     ReducedModuloQ,
+}
+
+// The length of a message: "N/4 bytes, rounded up".
+pub fn message_bytes(n: u32) -> usize
+    ensures { λ r. ⌜ r ≡ messageBytes n ⌝ }
+{
+    (n as usize + 3) / 4
+}
+
+// Zeros, with room for an array at the largest N: 8 KiB of the caller's stack.
+pub fn zeros() -> [i32; 2048]
+    ensures { λ r. ⌜ r ≡ replicate 2048 (pos 0) ⌝ }
+{
+    [0i32; 2048]
 }
 
 // x × y reduced modulo q, to out.

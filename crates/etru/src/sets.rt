@@ -40,13 +40,21 @@ fn is_unit(a: i64, b: i64) -> bool
     equal(a, b, 0, -1)
 }
 
+// Whether coefficient i is (a, b).
+pub(crate) fn coefficient_is(x: &[i32], i: usize, a: i64, b: i64) -> bool
+    requires { ⌜ (i < 1024) × (2 * i + 1 < length (now x)) ⌝ }
+    ensures { λ r. ⌜ r ≡ same (coefficient (now (x .entry)) i) (value a b) ⌝ }
+{
+    let xa = at(x, 2 * i);
+    let xb = at(x, 2 * i + 1);
+    equal(xa, xb, a, b)
+}
+
 fn nonzero_at(x: &[i32], i: usize) -> bool
     requires { ⌜ (i < 1024) × (2 * i + 1 < length (now x)) ⌝ }
     ensures { λ r. ⌜ r ≡ nonzero (coefficient (now (x .entry)) i) ⌝ }
 {
-    let a = at(x, 2 * i);
-    let b = at(x, 2 * i + 1);
-    !equal(a, b, 0, 0)
+    !coefficient_is(x, i, 0, 0)
 }
 
 fn zero_or_unit_at(x: &[i32], i: usize) -> bool
@@ -65,12 +73,9 @@ fn own_remainder_q_at(x: &[i32], i: usize, c: i32, d: i32) -> bool
     requires { ⌜ (i < 1024) × (2 * i + 1 < length (now x)) × (beyond 4095 (value c d) ≡ false) × (value c d ≢ 𝟘) ⌝ }
     ensures { λ r. ⌜ r ≡ same (modQ (value c d) (coefficient (now (x .entry)) i)) (coefficient (now (x .entry)) i) ⌝ }
 {
-    let a = at(x, 2 * i);
-    let b = at(x, 2 * i + 1);
-    let r = crate::products::reduced_q(a, b, c, d);
-    let ra = r.a;
-    let rb = r.b;
-    equal(ra as i64, rb as i64, a, b)
+    let a = x[2 * i];
+    let b = x[2 * i + 1];
+    eisenstein::is_remainder(a, b, c, d)
 }
 
 fn own_remainder_2_at(x: &[i32], i: usize) -> bool

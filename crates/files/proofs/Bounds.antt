@@ -1,20 +1,20 @@
 -- How long a file can be: at most four arrays of at most 1,024 coefficients.
 use mathlib.Core.Path.{subst}
-use Prim.Native.Nat.{ℕ, suc, _+_, _*_, _≤_, _<_}
+use Prim.Native.Nat.{ℕ, _+_, _*_, _≤_, _<_}
 use native.Mathlib.Omega.{arith}
 use native.Mathlib.Nat.{mul-le-mul, mul-le-mul-left, mul-suc}
 use lib.ListN.{length}
-use Rattle.files.specs.Files.{arraysOf, numberCount}
+use Rattle.files.specs.Files.{arraysOf, fileNumbers}
 use Rattle.files.proofs.ArraysOfKinds.{at-most-four}
 
 pub four-arrays : (n k : ℕ) → n ≤ 1024 → k ≤ 4 → 4 * n * k ≤ 16384
 four-arrays n k h l = mul-le-mul {n₁ = 4 * n} {n₂ = 4096} (omega arith) l
 
-pub numbers-few : (kind n : ℕ) → n ≤ 1024 → numberCount kind n ≤ 8192
-unfolding numberCount
+pub numbers-few : (kind n : ℕ) → n ≤ 1024 → fileNumbers kind n ≤ 8192
+unfolding fileNumbers
 numbers-few kind n h = omega (arith, four-arrays n (length (arraysOf kind)) h (at-most-four kind))
 
 -- array k ends within the numbers
-pub end-of-array : (kind n k : ℕ) → k < length (arraysOf kind) → 2 * n * k + 2 * n ≤ numberCount kind n
-unfolding numberCount
+pub end-of-array : (kind n k : ℕ) → k < length (arraysOf kind) → 2 * n * k + 2 * n ≤ fileNumbers kind n
+unfolding fileNumbers
 end-of-array kind n k h = subst (λ (m : ℕ). m ≤ 2 * n * length (arraysOf kind)) (mul-suc (2 * n) k) (mul-le-mul-left (2 * n) h)

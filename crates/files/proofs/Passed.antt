@@ -1,26 +1,24 @@
 -- What the checks of a file leave, where all are passed.
-use mathlib.Core.Path.{_≡_, refl}
-use mathlib.Core.Bool.{Bool, true, false, not, _&&_, _||_}
+use mathlib.Core.Path.{_≡_, sym, _∙_, subst}
+use mathlib.Core.Bool.{Bool, true, false, not, _&&_}
 use mathlib.Core.List.{List}
-use Prim.Native.Nat.{ℕ, _+_, _*_, _%_, _≤_, _<_}
+use Prim.Native.Nat.{ℕ, _+_, _*_, _≤_, _<_}
 use native.Mathlib.Omega.{arith}
 use native.Mathlib.Nat.{le-trans}
 use borrow.Author.Tests.{ltb-false}
-use lib.Dec.{ltb, eqb, eqb→eq, lit≤}
+use lib.Dec.{T, ltb, eqb, eqb→eq, lit≤}
 use lib.IntN.{ℤ}
 use lib.ListN.{length, getD}
 use mir.Facts.{and-yes}
-use Rattle.refusals.specs.Outcomes.{Check, done, outcome}
-use Rattle.refusals.proofs.Checks.{done-passed, done-holds}
+use Rattle.refusals.specs.Outcomes.{done, refused, outcome}
+use Rattle.refusals.proofs.Checks.{done-passed, done-holds, holds-passed, fails-refused}
 use Rattle.integers.proofs.Tests.{are-equal-2, are-equal-3}
-use Rattle.eisenstein.specs.Calls.{beyond}
 use Rattle.eisenstein.proofs.Limits.{within}
-use Rattle.parameters.specs.Sets.{ParameterSet, outside, even, parameterChecks}
-use Rattle.parameters.proofs.Ranges.{in-range}
+use Rattle.parameters.specs.Sets.{ParameterSet, outside, parameterChecks}
 use Rattle.packing.proofs.RoundTrips.{is-unset}
 use Rattle.etru.proofs.AcceptedParameters.{accepted-parameters}
 use Rattle.etru.proofs.Sizes.{Small}
-use Rattle.files.specs.Files.{arraysOf, numberCount, fileLength}
+use Rattle.files.specs.Files.{arraysOf, fileNumbers, fileBytes}
 use Rattle.files.specs.Calls.{marked, versionOne, headChecks, setChecks, contentChecks}
 use Rattle.files.proofs.Numbers.{Fits16, fits-small}
 use Rattle.files.proofs.Lists.{arrays-small}
@@ -60,17 +58,9 @@ pub record PartsFit (p : ParameterSet) : Type 0 where
   pub t-fits : p .t < 65536
 
 pub parts-fit : (p : ParameterSet) → outcome (parameterChecks p) (tt {0}) ≡ done (tt {0}) → PartsFit p
-unfolding parameterChecks
 parts-fit p e =
-    let c1 = done-passed 1 (outside 3 1024 (p .N)) _ _ _ e in
-    let c2 = done-passed 2 (beyond 4095 (p .q)) _ _ _ (c1 .1) in
-    let c3 = done-passed 3 (even (p .q .a) && even (p .q .b)) _ _ _ (c2 .1) in
-    let c4 = done-passed 4 (outside 3 (p .N) (p .s) || not (eqb (p .s % 3) 0)) _ _ _ (c3 .1) in
-    let c5 = done-passed 5 (outside 1 (p .N) (p .t)) _ _ _ (c4 .1) in
-    let n : p .N ≤ 1024 = in-range 3 1024 (p .N) (c1 .0) in
-    let s : p .s ≤ p .N = in-range 3 (p .N) (p .s) (first-unset (outside 3 (p .N) (p .s)) _ (c4 .0)) in
-    let t : p .t ≤ p .N = in-range 1 (p .N) (p .t) (c5 .0) in
-    let q = within 4095 (p .q) (c2 .0) in
+    let k = accepted-parameters p e in
+    let q = within 4095 (p .q) (k .q-small) in
     record {
       N-fits = omega arith;
       c-fits = fits-small (p .q .a) (le-trans (q .0) (lit≤ tt));
@@ -78,30 +68,39 @@ parts-fit p e =
       s-fits = omega arith;
       t-fits = omega arith;
     }
-  where
-    first-unset : (a b : Bool) → (a || b) ≡ false → a ≡ false
-    first-unset true b e = e
-    first-unset false b e = refl
 
 -- ---- the contents: their lengths, and small numbers
 
 pub record Contents (kind : ℕ) (p : ParameterSet) (l : List ℤ) (numbers file : ℕ) : Type 0 where
-  pub file-is : file ≡ fileLength kind (p .N)
-  pub numbers-are : numbers ≡ numberCount kind (p .N)
+  pub file-is : file ≡ fileBytes kind (p .N)
+  pub numbers-are : numbers ≡ fileNumbers kind (p .N)
   pub sets : outcome (setChecks p (arraysOf kind) l) (tt {0}) ≡ done (tt {0})
 
 pub contents-passed : (kind : ℕ) (p : ParameterSet) (l : List ℤ) (numbers file : ℕ) → outcome (contentChecks kind p l numbers file) (tt {0}) ≡ done (tt {0}) → Contents kind p l numbers file
 unfolding contentChecks
 contents-passed kind p l numbers file e =
-    let k7 = done-holds 7 (eqb file (fileLength kind (p .N)) && eqb numbers (numberCount kind (p .N))) _ _ _ e in
-    let n = are-equal-2 file (fileLength kind (p .N)) numbers (numberCount kind (p .N)) (k7 .0) in
+    let k7 = done-holds 7 (eqb file (fileBytes kind (p .N)) && eqb numbers (fileNumbers kind (p .N))) _ _ _ e in
+    let n = are-equal-2 file (fileBytes kind (p .N)) numbers (fileNumbers kind (p .N)) (k7 .0) in
     record { file-is = n .0; numbers-are = n .1; sets = k7 .1 }
 
-pub file-length : (kind N : ℕ) → fileLength kind N ≡ 16 + 2 * numberCount kind N
-unfolding fileLength numberCount
-file-length kind N = omega arith
+-- the test of the two lengths, as `lengths_right` answers it
+module _ (kind : ℕ) (p : ParameterSet) (l : List ℤ) (numbers file : ℕ) (right : Bool) (tested : right ≡ (eqb file (fileBytes kind (p .N)) && eqb numbers (fileNumbers kind (p .N)))) where
+  pub lengths-are : right ≡ true → (file ≡ fileBytes kind (p .N)) × (numbers ≡ fileNumbers kind (p .N))
+  lengths-are e = are-equal-2 _ _ _ _ (subst T (sym e ∙ tested) tt)
+
+  pub lengths-passed : right ≡ true → outcome (contentChecks kind p l numbers file) (tt {0}) ≡ outcome (setChecks p (arraysOf kind) l) (tt {0})
+  unfolding contentChecks
+  lengths-passed e = holds-passed 7 (eqb file (fileBytes kind (p .N)) && eqb numbers (fileNumbers kind (p .N))) _ tt (subst T (sym e ∙ tested) tt)
+
+  pub lengths-refused : right ≡ false → outcome (contentChecks kind p l numbers file) (tt {0}) ≡ refused 7
+  unfolding contentChecks
+  lengths-refused e = fails-refused 7 _ _ tt (sym tested ∙ e)
+
+pub file-bytes : (kind N : ℕ) → fileBytes kind N ≡ 16 + 2 * fileNumbers kind N
+unfolding fileBytes fileNumbers
+file-bytes kind N = omega arith
 
 -- where the parameters are accepted too, every number is small
-pub contents-small : (kind : ℕ) (p : ParameterSet) (l : List ℤ) → outcome (parameterChecks p) (tt {0}) ≡ done (tt {0}) → length l ≡ numberCount kind (p .N) → outcome (setChecks p (arraysOf kind) l) (tt {0}) ≡ done (tt {0}) → Small l
-unfolding numberCount
+pub contents-small : (kind : ℕ) (p : ParameterSet) (l : List ℤ) → outcome (parameterChecks p) (tt {0}) ≡ done (tt {0}) → length l ≡ fileNumbers kind (p .N) → outcome (setChecks p (arraysOf kind) l) (tt {0}) ≡ done (tt {0}) → Small l
+unfolding fileNumbers
 contents-small kind p l e n c = arrays-small p (accepted-parameters p e) (arraysOf kind) l n c

@@ -21,7 +21,7 @@ use Rattle.files.specs.Calls.{marked, versionOne, headChecks, readingHea
 use Rattle.files.specs.Promises.{Reading-undoes-writing, Writing-undoes-reading, Written-bytes}
 use Rattle.files.proofs.Numbers.{Fits16, signed-bits, bits-signed, bits-lt, number-bytes, bytes-number, number-lt}
 use Rattle.files.proofs.Lists.{Fitting, fitting-small, bytes-length, numbers-length, numbers-of-bytes, bytes-of-numbers}
-use Rattle.files.proofs.Passed.{Head, head-passed, PartsFit, parts-fit, contents-passed, contents-small, file-length}
+use Rattle.files.proofs.Passed.{Head, head-passed, PartsFit, parts-fit, contents-passed, contents-small, file-bytes}
 
 -- ---- a file that is written
 
@@ -66,7 +66,7 @@ module _ (kind : ℕ) (p : ParameterSet) (l : List ℤ) where
       let k19 = done-passed 19 (outside 1 3 kind) _ _ _ e in
       let k = done-all (parameterChecks p) (contentChecks kind p l (length l) room) _ _ (k19 .1) in
       let c = contents-passed kind p l (length l) room (k .1) in
-      let r : room ≡ length (fileOf kind p l) = omega (arith, c .file-is, c .numbers-are, file-length kind (p .N), written-length) in
+      let r : room ≡ length (fileOf kind p l) = omega (arith, c .file-is, c .numbers-are, file-bytes kind (p .N), written-length) in
       record {
         known = k19 .0;
         parameters = k .0;
@@ -173,11 +173,11 @@ writing-undoes-reading kind file room l bytes e =
     let h = head-passed kind file (k .0) in
     let m = done-all (parameterChecks (headOf file)) _ _ _ (k .1) in
     let c = contents-passed kind (headOf file) (numbersFrom (drop 16 file)) room (length file) (m .1) in
-    let r : room ≡ length (numbersFrom (drop 16 file)) = omega (arith, numbers-length (drop 16 file), length-drop 16 file, c .file-is, c .numbers-are, file-length kind (headOf file .N)) in
+    let r : room ≡ length (numbersFrom (drop 16 file)) = omega (arith, numbers-length (drop 16 file), length-drop 16 file, c .file-is, c .numbers-are, file-bytes kind (headOf file .N)) in
     let w =
     subst (λ (x : List ℤ). writing kind (headOf file) x (length file) ≡ done file) (d .1)
     (passed 19 _ _ (h .known)
     ∙ passed-all (parameterChecks (headOf file)) _ _ (m .0)
     ∙ done-with (contentChecks kind (headOf file) (numbersFrom (drop 16 file)) (length (numbersFrom (drop 16 file))) (length file)) _ (rw r at (m .1))
-    ∙ ap done (read-file file bytes kind h (omega (arith, c .file-is, file-length kind (headOf file .N))))) in
+    ∙ ap done (read-file file bytes kind h (omega (arith, c .file-is, file-bytes kind (headOf file .N))))) in
     (passed-all (headChecks kind file) (parameterChecks (headOf file)) (headOf file) (k .0) ∙ done-with (parameterChecks (headOf file)) (headOf file) (m .0), w)

@@ -2,11 +2,11 @@
 use mathlib.Core.Path.{_≡_, sym, _∙_, ap, ap₂}
 use mathlib.Core.Bool.{not}
 use mathlib.Core.List.{List, [], _∷_}
-use Prim.Native.Nat.{ℕ, suc, _+_, _*_, _<_}
+use Prim.Native.Nat.{ℕ, _+_, _*_, _<_}
 use native.Mathlib.Nat.{mul-zero, mul-suc}
 use native.Mathlib.Numerals.{add-one}
 use lib.IntN.{ℤ}
-use lib.ListN.{length, getD, take, drop}
+use lib.ListN.{length, getD, drop}
 use lib.Seq.{drop-cons, drop-drop, drop-length}
 use mir.Facts.{yes-eqb}
 use Rattle.refusals.specs.Outcomes.{Check, _if_, done, refused, outcome}
@@ -15,6 +15,7 @@ use Rattle.parameters.specs.Sets.{ParameterSet, parameterChecks}
 use Rattle.etru.specs.declared.ArraySet.{ArraySet}
 use Rattle.etru.specs.declared.ArraySet.the-variants.{ReducedModuloQ}
 use Rattle.etru.specs.Calls.{full, inSet, notInSet, arrayChecks, arrayCheck}
+use Rattle.files.specs.Files.{arrayAt}
 use Rattle.files.specs.Calls.{setChecks}
 
 -- the check of one array in its set
@@ -28,30 +29,27 @@ own-check p a x h e =
     passed-all (parameterChecks p) (arrayChecks p a x) tt h ∙ holds-passed 7 (full (p .N) (length x)) (own p a x ∷ []) tt (yes-eqb e)
 
 module _ (p : ParameterSet) (arrays : List ArraySet) (l : List ℤ) where
-  -- array k and its set, and the checks from array k on
-  abbrev pub array-at : ℕ → List ℤ
-  array-at k = take (2 * p .N) (drop (2 * p .N * k) l)
-
+  -- the set of array k, and the checks from array k on
   abbrev pub set-at : ℕ → ArraySet
   set-at k = getD arrays k ReducedModuloQ
 
   abbrev pub from-array : ℕ → List Check
   from-array k = setChecks p (drop k arrays) (drop (2 * p .N * k) l)
 
-  pub first-array : outcome (setChecks p arrays l) (tt {0}) ≡ outcome (from-array 0) (tt {0})
-  first-array = ap (λ (i : ℕ). outcome (setChecks p arrays (drop i l)) (tt {0})) (sym (mul-zero (2 * p .N)))
+  pub first-array : setChecks p arrays l ≡ from-array 0
+  first-array = ap (λ (i : ℕ). setChecks p arrays (drop i l)) (sym (mul-zero (2 * p .N)))
 
-  next-array : (k : ℕ) → k < length arrays → from-array k ≡ own p (set-at k) (array-at k) ∷ from-array (k + 1)
-  unfolding setChecks
+  pub next-array : (k : ℕ) → k < length arrays → from-array k ≡ own p (set-at k) (arrayAt p k l) ∷ from-array (k + 1)
+  unfolding setChecks arrayAt
   next-array k h =
       ap (λ (r : List ArraySet). setChecks p r (drop (2 * p .N * k) l)) (drop-cons arrays k ReducedModuloQ h)
-      ∙ ap₂ (λ (r : List ArraySet) (x : List ℤ). own p (set-at k) (array-at k) ∷ setChecks p r x) (ap (λ (i : ℕ). drop i arrays) (sym (add-one k))) (drop-drop (2 * p .N) (2 * p .N * k) l ∙ ap (λ (i : ℕ). drop i l) (sym (mul-suc (2 * p .N) k) ∙ ap (λ (i : ℕ). 2 * p .N * i) (sym (add-one k))))
+      ∙ ap₂ (λ (r : List ArraySet) (x : List ℤ). own p (set-at k) (arrayAt p k l) ∷ setChecks p r x) (ap (λ (i : ℕ). drop i arrays) (sym (add-one k))) (drop-drop (2 * p .N) (2 * p .N * k) l ∙ ap (λ (i : ℕ). drop i l) (sym (mul-suc (2 * p .N) k) ∙ ap (λ (i : ℕ). 2 * p .N * i) (sym (add-one k))))
 
-  pub array-passed : (k : ℕ) → k < length arrays → outcome (own p (set-at k) (array-at k) ∷ []) (tt {0}) ≡ done (tt {0}) → outcome (from-array k) (tt {0}) ≡ outcome (from-array (k + 1)) (tt {0})
-  array-passed k h e = ap (λ (cs : List Check). outcome cs (tt {0})) (next-array k h) ∙ passed-all (own p (set-at k) (array-at k) ∷ []) (from-array (k + 1)) tt e
+  pub array-passed : (k : ℕ) → k < length arrays → outcome (own p (set-at k) (arrayAt p k l) ∷ []) (tt {0}) ≡ done (tt {0}) → outcome (from-array k) (tt {0}) ≡ outcome (from-array (k + 1)) (tt {0})
+  array-passed k h e = ap (λ (cs : List Check). outcome cs (tt {0})) (next-array k h) ∙ passed-all (own p (set-at k) (arrayAt p k l) ∷ []) (from-array (k + 1)) tt e
 
-  pub array-refused : (k n : ℕ) → k < length arrays → outcome (own p (set-at k) (array-at k) ∷ []) (tt {0}) ≡ refused n → outcome (from-array k) (tt {0}) ≡ refused n
-  array-refused k n h e = ap (λ (cs : List Check). outcome cs (tt {0})) (next-array k h) ∙ refused-first (own p (set-at k) (array-at k) ∷ []) (from-array (k + 1)) tt n e
+  pub array-refused : (k n : ℕ) → k < length arrays → outcome (own p (set-at k) (arrayAt p k l) ∷ []) (tt {0}) ≡ refused n → outcome (from-array k) (tt {0}) ≡ refused n
+  array-refused k n h e = ap (λ (cs : List Check). outcome cs (tt {0})) (next-array k h) ∙ refused-first (own p (set-at k) (arrayAt p k l) ∷ []) (from-array (k + 1)) tt n e
 
   pub all-arrays-passed : (k : ℕ) → k ≡ length arrays → outcome (from-array k) (tt {0}) ≡ done (tt {0})
   unfolding setChecks

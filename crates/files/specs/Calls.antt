@@ -9,7 +9,7 @@ use Rattle.refusals.specs.Outcomes.{Check, Outcome, outcome, _if_}
 use Rattle.parameters.specs.Sets.{ParameterSet, outside, parameterChecks}
 use Rattle.etru.specs.declared.ArraySet.{ArraySet}
 use Rattle.etru.specs.Calls.{inSet, notInSet}
-use Rattle.files.specs.Files.{arraysOf, numberCount, fileLength, headOf, numbersFrom, fileOf}
+use Rattle.files.specs.Files.{arraysOf, fileNumbers, fileBytes, headOf, numbersFrom, fileOf}
 
 -- "mark is not EIZ", "version is not 1": what bytes 0 to 4 are to be
 unfoldable pub marked : List ℕ → Bool
@@ -38,7 +38,7 @@ setChecks p (a ∷ rest) numbers = notInSet a if not (inSet p a (take (2 * p .N)
 -- the lengths of a file and of its numbers, one of which is lent as an output
 unfoldable pub contentChecks : ℕ → ParameterSet → List ℤ → (numbers file : ℕ) → List Check
 contentChecks kind p l numbers file =
-    7 if not (eqb file (fileLength kind (p .N)) && eqb numbers (numberCount kind (p .N)))
+    7 if not (eqb file (fileBytes kind (p .N)) && eqb numbers (fileNumbers kind (p .N)))
     ∷ setChecks p (arraysOf kind) l
 
 -- "Reading a file: 16, 17, 18, 19, parameters, 7, then its arrays in stored order."

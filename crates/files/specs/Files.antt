@@ -4,7 +4,7 @@ use mathlib.Core.List.{List, [], _∷_, _++_}
 use Prim.Native.Nat.{ℕ, suc, _+_, _-_, _*_, _/_, _%_}
 use lib.Dec.{ltb, eqb}
 use lib.IntN.{ℤ, pos, negsuc}
-use lib.ListN.{length, getD}
+use lib.ListN.{length, getD, take, drop}
 use Rattle.parameters.specs.Sets.{ParameterSet, set}
 use Rattle.etru.specs.declared.ArraySet.{ArraySet}
 use Rattle.etru.specs.declared.ArraySet.the-variants.{F, G, ReducedModulo2, ReducedModuloQ}
@@ -17,11 +17,11 @@ arraysOf kind =
     (cond (eqb kind 3) (ReducedModuloQ ∷ []) []))
 
 -- "Then arrays of 2N signed 16-bit numbers." "Length: 16 + 4N bytes per array."
-unfoldable pub numberCount : ℕ → ℕ → ℕ
-numberCount kind N = 2 * N * length (arraysOf kind)
+unfoldable pub fileNumbers : ℕ → ℕ → ℕ
+fileNumbers kind N = 2 * N * length (arraysOf kind)
 
-unfoldable pub fileLength : ℕ → ℕ → ℕ
-fileLength kind N = 16 + 4 * N * length (arraysOf kind)
+unfoldable pub fileBytes : ℕ → ℕ → ℕ
+fileBytes kind N = 16 + 4 * N * length (arraysOf kind)
 
 -- "Numbers are big-endian": the two bytes of a 16-bit number, and the number of two bytes.
 unfoldable pub bytes16 : ℕ → List ℕ
@@ -54,6 +54,10 @@ unfoldable pub numbersFrom : List ℕ → List ℤ
 numbersFrom [] = []
 numbersFrom (high ∷ []) = []
 numbersFrom (high ∷ low ∷ rest) = signed16 (number16 high low) ∷ numbersFrom rest
+
+-- Array k of them.
+unfoldable pub arrayAt : ParameterSet → ℕ → List ℤ → List ℤ
+arrayAt p k numbers = take (2 * p .N) (drop (2 * p .N * k) numbers)
 
 -- The other way: "Bytes 0–2: the letters EIZ. 3–4: version 1. 5: kind." Then the parameters, then the arrays.
 unfoldable pub headBytes : ℕ → ParameterSet → List ℕ

@@ -8,10 +8,11 @@ ghost use lib.ListN.{length, getD, drop};
 ghost use Rattle.refusals.specs.Outcomes.{done, outcome, number, written};
 ghost use Rattle.refusals.specs.Numbers.{answered};
 ghost use Rattle.parameters.specs.Sets.{setOf, outside, parameterChecks};
-ghost use Rattle.files.specs.Files.{arraysOf, numberCount, fileLength, numbersFrom, fileOf};
+ghost use Rattle.files.specs.Files.{arraysOf, fileNumbers, fileBytes, numbersFrom, fileOf};
 ghost use Rattle.files.specs.Calls.{setChecks, contentChecks};
 use crate::arrays::read_numbers;
 use crate::arrays::write_numbers;
+use crate::four_arrays;
 use crate::heads::write_head;
 use crate::kinds::array_count;
 use crate::kinds::array_set;
@@ -21,7 +22,7 @@ use refusals::Refusal;
 
 fn lengths_right(kind: u32, n: usize, numbers: usize, file: usize) -> bool
     requires { ⌜ n ≤ 1024 ⌝ }
-    ensures { λ r. ⌜ r ≡ (eqb file (fileLength kind n) && eqb numbers (numberCount kind n)) ⌝ }
+    ensures { λ r. ⌜ r ≡ (eqb file (fileBytes kind n) && eqb numbers (fileNumbers kind n)) ⌝ }
 {
     let count = array_count(kind);
     if file == 16 + 4 * n * count {
@@ -32,7 +33,7 @@ fn lengths_right(kind: u32, n: usize, numbers: usize, file: usize) -> bool
 
 // Each array is the next 2N numbers.
 pub(crate) fn sets_refusal(kind: u32, p: Parameters, numbers: &[i32]) -> Answer
-    requires { ⌜ (outcome (parameterChecks (setOf p)) (tt {0}) ≡ done (tt {0})) × (length (now numbers) ≡ numberCount kind (p .n)) ⌝ }
+    requires { ⌜ (outcome (parameterChecks (setOf p)) (tt {0}) ≡ done (tt {0})) × (length (now numbers) ≡ fileNumbers kind (p .n)) ⌝ }
     ensures { λ r. ⌜ answered r ≡ outcome (setChecks (setOf p) (arraysOf kind) (now (numbers .entry))) tt ⌝ }
 {
     let n = p.n;
@@ -53,16 +54,9 @@ pub(crate) fn sets_refusal(kind: u32, p: Parameters, numbers: &[i32]) -> Answer
     Answer::Done
 }
 
-// Room for the numbers of the longest file: four arrays at the largest N.
-fn largest() -> [i32; 8192]
-    ensures { λ r. ⌜ length r ≡ 8192 ⌝ }
-{
-    [0i32; 8192]
-}
-
 // The numbers go to a lent array.
 fn sets_refusal_in(kind: u32, p: Parameters, file: &[u8], space: &mut [i32]) -> Answer
-    requires { ⌜ (outcome (parameterChecks (setOf p)) (tt {0}) ≡ done (tt {0})) × (length (now file) ≡ fileLength kind (p .n)) × (length (now space) ≡ numberCount kind (p .n)) ⌝ }
+    requires { ⌜ (outcome (parameterChecks (setOf p)) (tt {0}) ≡ done (tt {0})) × (length (now file) ≡ fileBytes kind (p .n)) × (length (now space) ≡ fileNumbers kind (p .n)) ⌝ }
     ensures { λ r. ⌜ answered r ≡ outcome (setChecks (setOf p) (arraysOf kind) (numbersFrom (drop 16 (now (file .entry))))) tt ⌝ }
 {
     read_numbers(file, space);
@@ -78,7 +72,7 @@ fn content_refusal(kind: u32, p: Parameters, file: &[u8], room: usize) -> Answer
     if !lengths_right(kind, n as usize, room, file.len()) {
         return Answer::Refused(Refusal::WrongLength);
     }
-    let mut space = largest();
+    let mut space = four_arrays();
     sets_refusal_in(kind, p, file, &mut space[..room])
 }
 

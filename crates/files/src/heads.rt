@@ -10,6 +10,8 @@ ghost use Rattle.refusals.specs.Numbers.{answered};
 ghost use Rattle.parameters.specs.Sets.{setOf, outside, parameterChecks, parameters, made};
 ghost use Rattle.files.specs.Files.{bytes16, headOf, headBytes};
 ghost use Rattle.files.specs.Calls.{marked, versionOne, headChecks};
+use crate::PUBLIC;
+use crate::SEALED;
 use crate::bytes::bits_of;
 use crate::bytes::signed_at;
 use crate::bytes::unsigned_at;
@@ -44,7 +46,7 @@ fn kind_wanted(kind: u32, file: &[u8]) -> bool
     requires { ⌜ 16 ≤ length (now file) ⌝ }
     ensures { λ r. ⌜ r ≡ (not (outside 1 3 kind) && eqb (getD (now (file .entry)) 5 0) kind) ⌝ }
 {
-    if parameters::out_of_range(kind, 1, 3) {
+    if parameters::out_of_range(kind, PUBLIC, SEALED) {
         return false;
     }
     file[5] as u32 == kind

@@ -3,18 +3,21 @@ ghost use mathlib.Core.Path.{_≡_};
 ghost use lib.ListN.{length, getD};
 ghost use Rattle.etru.specs.declared.ArraySet.the-variants.{ReducedModuloQ};
 ghost use Rattle.files.specs.Files.{arraysOf};
+use crate::PRIVATE;
+use crate::PUBLIC;
+use crate::SEALED;
 use etru::ArraySet;
 
 pub(crate) fn array_count(kind: u32) -> usize
     ensures { λ r. ⌜ r ≡ length (arraysOf kind) ⌝ }
 {
-    if kind == 1 {
+    if kind == PUBLIC {
         return 1;
     }
-    if kind == 2 {
+    if kind == PRIVATE {
         return 4;
     }
-    if kind == 3 {
+    if kind == SEALED {
         return 1;
     }
     0
@@ -24,7 +27,7 @@ pub(crate) fn array_count(kind: u32) -> usize
 pub(crate) fn array_set(kind: u32, k: usize) -> ArraySet
     ensures { λ r. ⌜ r ≡ getD (arraysOf kind) k ReducedModuloQ ⌝ }
 {
-    if kind == 2 {
+    if kind == PRIVATE {
         if k == 0 {
             return ArraySet::F;
         }

@@ -1,10 +1,10 @@
 -- Absolute values: bounds on `natAbs` of sums, differences and products, and squares.
 -- One use: `natAbs-+ a b : natAbs (a +ℤ b) ≤ natAbs a + natAbs b`.
-use mathlib.Core.Path.{_≡_, refl, sym, _∙_, ap, subst}
+use mathlib.Core.Path.{_≡_, refl, sym, ap}
 use Prim.Native.Nat.{ℕ, zero, suc, _+_, _*_, _≤_, _<_}
 use native.Mathlib.Omega.{arith}
 use native.Mathlib.Decide.{decLe}
-use native.Mathlib.Nat.{mul-le-mul, mul-lt-mul-of-pos-left, mul-lt-mul-of-pos-right, mul-pos, lt-of-le-of-lt, mul-le-mul-right}
+use native.Mathlib.Nat.{mul-lt-mul-of-pos-left, lt-of-le-of-lt, mul-le-mul-right}
 use borrow.Author.Tests.{le-ltb}
 use lib.Dec.{ltb}
 use lib.Signed.{ltZ, _<ℤ_, _≤ℤ_}

@@ -1,8 +1,8 @@
 -- The ring laws of ℤ that `lib.IntN` lacks: the product is associative and distributes over the sum.
 -- One use: `*ℤ-assoc a b c : (a *ℤ b) *ℤ c ≡ a *ℤ (b *ℤ c)`.
-use mathlib.Core.Path.{_≡_, refl, sym, _∙_, ap, subst}
-use Prim.Native.Nat.{ℕ, zero, suc}
-use lib.IntN.{ℤ, pos, negsuc, sucℤ, predℤ, negℤ, _+ℤ_, _-ℤ_, _*ℤ_, +ℤ-assoc, +ℤ-comm, +ℤ-idl, +ℤ-idr, +ℤ-invr, +ℤ-invl, sucℤ-+ℤ, predℤ-+ℤ, sucℤ-*ℤ, predℤ-*ℤ, zero-*ℤ, *ℤ-comm, negℤ-+ℤ, negℤ-negℤ, suc-pred}
+use mathlib.Core.Path.{_≡_, sym, _∙_, ap}
+use Prim.Native.Nat.{zero, suc}
+use lib.IntN.{ℤ, pos, negsuc, sucℤ, predℤ, negℤ, _+ℤ_, _-ℤ_, _*ℤ_, +ℤ-assoc, +ℤ-comm, +ℤ-idl, +ℤ-idr, +ℤ-invr, +ℤ-invl, sucℤ-+ℤ, predℤ-+ℤ, sucℤ-*ℤ, predℤ-*ℤ, zero-*ℤ, *ℤ-comm}
 
 -- induction by one step up and one step down
 pub step-ind {ℓ} : (P : ℤ → Type ℓ) → P (pos 0) → ((k : ℤ) → P k → P (sucℤ k)) → ((k : ℤ) → P k → P (predℤ k)) → (k : ℤ) → P k
@@ -51,7 +51,3 @@ pub *ℤ-assoc : (a b c : ℤ) → (a *ℤ b) *ℤ c ≡ a *ℤ (b *ℤ c)
     (λ k h. ap (λ (x : ℤ). x *ℤ c) (predℤ-*ℤ k b) ∙ distrib-right (k *ℤ b) (negℤ b) c
     ∙ ap (λ (x : ℤ). ((k *ℤ b) *ℤ c) +ℤ x) (neg-*ℤ b c) ∙ ap (λ (x : ℤ). x -ℤ (b *ℤ c)) h ∙ sym (predℤ-*ℤ k (b *ℤ c)))
     a
-
--- a product of two numbers and one of two others, paired the other way
-pub exchange-* : (a b c d : ℤ) → (a *ℤ b) *ℤ (c *ℤ d) ≡ (a *ℤ c) *ℤ (b *ℤ d)
-exchange-* a b c d = *ℤ-assoc a b (c *ℤ d) ∙ ap (λ (x : ℤ). a *ℤ x) (sym (*ℤ-assoc b c d) ∙ ap (λ (x : ℤ). x *ℤ d) (*ℤ-comm b c) ∙ *ℤ-assoc c b d) ∙ sym (*ℤ-assoc a c (b *ℤ d))

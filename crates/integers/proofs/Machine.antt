@@ -2,14 +2,14 @@
 -- One use: with `ρ = given a 1024 h ∷ given b 1024 k ∷ []`, `fits w64 ρ (var 0 ⊗ var 1) tt` answers the need of `a * b`, and `exact w64 ρ (var 0 ⊗ var 1) tt` says that its result is `a *ℤ b`.
 use mathlib.Core.Path.{_≡_, refl, sym, _∙_, ap, ap₂, subst}
 use mathlib.Core.Bool.{Bool, true, false, not, _&&_}
-use mathlib.Core.List.{List, [], _∷_, map}
-use Prim.Native.Nat.{ℕ, zero, suc, _+_, _*_, _/_, _%_, _^_, _≤_, _<_}
+use mathlib.Core.List.{List, [], _∷_}
+use Prim.Native.Nat.{ℕ, zero, suc, _+_, _*_, _/_, _^_, _≤_, _<_}
 use native.Mathlib.Omega.{arith}
-use native.Mathlib.Nat.{le-trans, le-refl, mul-le-mul, lt-of-le-of-lt, div-le-self, mod-le, mul-div-cancel-left, zero-div, suc-mul}
+use native.Mathlib.Nat.{le-trans, le-refl, mul-le-mul, lt-of-le-of-lt, div-le-self, suc-mul}
 use lib.Dec.{T, ltb, ltb→lt, leb, leb→le}
 use lib.IntN.{ℤ, pos, negsuc, negℤ, natAbs, _+ℤ_, _-ℤ_, _*ℤ_}
-use lib.Signed.{mag, ltZ, quotZ, remZ, _<ℤ_, _≤ℤ_, ltZ-yes, ltZ-no}
-use mir.Syntax.{Width, w32, w64}
+use lib.Signed.{mag, ltZ, quotZ, _<ℤ_, _≤ℤ_, ltZ-yes, ltZ-no}
+use mir.Syntax.{Width}
 use mir.Val.{SFits, toZ, ofZ, hbits}
 use mir.Facts.{and-yes, toZ-ofZ, sfits-widen}
 use mir.ValLaws.{sfits-le}
@@ -214,28 +214,20 @@ division w {x} {n} {x′} {n′} e f h s =
       subst (SFits w) (sym (ap₂ quotZ e (f ∙ g))) (sfits-le (mag-quot x (suc m)) s),
     )
 
--- a multiple of a positive number, divided by it
-pub quotient : (n : ℕ) (r : ℤ) → 0 < n → quotZ (pos n *ℤ r) (pos n) ≡ r
-quotient n (pos k) h = ap pos (mul-div-cancel-left k h)
-quotient n (negsuc k) h = by-neg (n * suc k) ∙ ap (λ (j : ℕ). negℤ (pos j)) (mul-div-cancel-left (suc k) h)
-  where
-    by-neg : (j : ℕ) → quotZ (negℤ (pos j)) (pos n) ≡ negℤ (pos (j / n))
-    by-neg zero = ap pos (zero-div n) ∙ sym (ap (λ (i : ℕ). negℤ (pos i)) (zero-div n))
-    by-neg (suc j) = refl
+pub natAbs-quot : (x n : ℤ) → natAbs (quotZ x n) ≤ natAbs x
+natAbs-quot (pos a) (pos b) = div-le-self a b
+natAbs-quot (pos a) (negsuc b) = omega (arith, natAbs-neg (pos (a / suc b)), div-le-self a (suc b))
+natAbs-quot (negsuc a) (pos b) = omega (arith, natAbs-neg (pos (suc a / b)), div-le-self (suc a) b)
+natAbs-quot (negsuc a) (negsuc b) = div-le-self (suc a) (suc b)
 
-pub natAbs-rem : (x n : ℤ) → natAbs (remZ x n) ≤ natAbs x
-natAbs-rem (pos a) n = mod-le a (natAbs n)
-natAbs-rem (negsuc a) n =
-    subst (λ (k : ℕ). k ≤ suc a) (sym (natAbs-neg (pos (suc a % natAbs n)))) (mod-le (suc a) (natAbs n))
-
--- the remainder that a division leaves, as a number that an expression starts from
-abbrev pub rest : {x n x′ n′ : ℤ} (b : ℕ) → x′ ≡ x → n′ ≡ n → natAbs x ≤ b → Leaf
-rest {x} {n} {x′} {n′} b e f h = record {
-  code = remZ x′ n′;
-  meant = remZ x n;
+-- a quotient, as a number that an expression starts from
+abbrev pub quotient : {x n x′ n′ : ℤ} (b : ℕ) → x′ ≡ x → n′ ≡ n → natAbs x ≤ b → Leaf
+quotient {x} {n} {x′} {n′} b e f h = record {
+  code = quotZ x′ n′;
+  meant = quotZ x n;
   bound = b;
-  is = ap₂ remZ e f;
-  small = le-trans (natAbs-rem x n) h;
+  is = ap₂ quotZ e f;
+  small = le-trans (natAbs-quot x n) h;
 }
 
 -- ---- a sum that a loop keeps: n numbers within m are within n·m. Its bits are a variable, so the bound is not computed

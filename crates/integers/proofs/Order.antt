@@ -1,13 +1,13 @@
 -- The order of ℤ, carried to ℕ so that `omega` proves facts of it. An integer is the difference of two natural numbers, `above z - below z`, of which one is 0.
 -- One use: `≤ℤ-trans : {a b c : ℤ} → a ≤ℤ b → b ≤ℤ c → a ≤ℤ c` is `≤ℤ-trans h k = omega (arith, orders)`; a fact on a sum lists `parts-+ a b` too.
-use mathlib.Core.Path.{_≡_, refl, sym, _∙_, ap, subst}
+use mathlib.Core.Path.{_≡_, refl, sym, _∙_, ap}
 use mathlib.Core.Bool.{Bool, true, false, cond, not}
 use mathlib.Core.Logic.{_⊎_, inl, inr, _≢_}
-use Prim.Native.Nat.{ℕ, zero, suc, _+_, _-_, _*_, _≤_, _<_}
+use Prim.Native.Nat.{ℕ, zero, suc, _+_, _-_, _≤_, _<_}
 use native.Mathlib.Omega.{arith}
-use native.Mathlib.Decide.{decLe, decLt, ℕ-discrete}
-use lib.Dec.{T, leb, ltb, leb→le, le→leb, ltb→lt, lt→ltb, nltb→le}
-use lib.IntN.{ℤ, pos, negsuc, negℤ, natAbs, subℕ, _+ℤ_, _-ℤ_, ℤ-discrete}
+use native.Mathlib.Decide.{decLt}
+use lib.Dec.{T, ltb, leb→le, le→leb, ltb→lt, lt→ltb, nltb→le}
+use lib.IntN.{ℤ, pos, negsuc, negℤ, natAbs, subℕ, _+ℤ_, _-ℤ_}
 use lib.Signed.{_≤ℤ_, _<ℤ_, ltZ, leZ, ltZ-yes, leZ-yes}
 
 unfoldable pub above : ℤ → ℕ
@@ -150,9 +150,3 @@ less-or-equal {a} {b} h = go (decLt (above a + below b) (above b + below a))
     go : Dec (above a + below b < above b + below a) → (a <ℤ b) ⊎ (a ≡ b)
     go (yes l) = inl (parts-lt l)
     go (no l) = inr (parts-eq a b (omega (arith, orders)))
-
--- a difference of natural numbers that does not go below 0
-pub pos-minus : (m n : ℕ) → n ≤ m → pos m -ℤ pos n ≡ pos (m - n)
-pos-minus m n h =
-    parts-eq (pos m -ℤ pos n) (pos (m - n))
-    (omega (arith, parts-- (pos m) (pos n), above-pos m, below-pos m, above-pos n, below-pos n, above-pos (m - n), below-pos (m - n)))

@@ -1,13 +1,13 @@
 -- A solver for identities of the ring ℤ. An expression is brought to a Horner form, `hrn a p` being a + x₀·p with `a` in the later variables; an identity holds where the form of the difference of its two sides is zero, which antt computes.
 -- One use: `square : (a b : ℤ) → (a +ℤ b) *ℤ (a +ℤ b) ≡ ((a *ℤ a) +ℤ (num 2 *ℤ (a *ℤ b))) +ℤ (b *ℤ b)` is `ring 2 (λ a b. (a ⊕ b) ⊗ (a ⊕ b) ⊜ a ⊗ a ⊕ con (pos 2) ⊗ (a ⊗ b) ⊕ b ⊗ b) tt`.
-use mathlib.Core.Path.{_≡_, refl, sym, _∙_, ap, subst}
-use mathlib.Core.Bool.{Bool, true, false, _&&_}
+use mathlib.Core.Path.{_≡_, refl, sym, _∙_, ap}
+use mathlib.Core.Bool.{Bool, false, _&&_}
 use mathlib.Core.List.{List, [], _∷_, _++_}
 use Prim.Native.Nat.{ℕ, zero, suc}
 use lib.Dec.{T, eqb, eqb→eq}
-use lib.IntN.{ℤ, pos, negsuc, negℤ, _+ℤ_, _-ℤ_, _*ℤ_, +ℤ-assoc, +ℤ-comm, +ℤ-idl, +ℤ-idr, +ℤ-invr, zero-*ℤ, *ℤ-zero, *ℤ-comm, negℤ-+ℤ, negℤ-negℤ, -ℤ-+ℤ-cancel}
+use lib.IntN.{ℤ, pos, negsuc, negℤ, _+ℤ_, _-ℤ_, _*ℤ_, +ℤ-assoc, +ℤ-comm, +ℤ-idl, +ℤ-idr, *ℤ-zero, *ℤ-comm, negℤ-+ℤ, -ℤ-+ℤ-cancel}
 use mir.Facts.{and-yes}
-use Rattle.integers.proofs.Laws.{distrib-right, distrib-left, *ℤ-assoc, exchange, neg-*ℤ, *ℤ-neg}
+use Rattle.integers.proofs.Laws.{distrib-right, distrib-left, *ℤ-assoc, exchange, *ℤ-neg}
 
 infixl 60 _⊕_ _⊝_
 infixl 70 _⊗_

@@ -1,9 +1,8 @@
 -- A test that antt computes at each number below a bound, and the rule drawn from it at each of them.
 -- One use: `every-at f 6 tt k h : T (f k)`, for `h : k < 6`, where `every f 6` computes to true.
-use mathlib.Core.Path.{_≡_, subst, sym}
-use mathlib.Core.Bool.{Bool, true, false, _&&_}
-use mathlib.Core.Logic.{_≢_}
-use Prim.Native.Nat.{ℕ, zero, suc, _≤_, _<_}
+use mathlib.Core.Path.{_≡_, refl, subst, sym}
+use mathlib.Core.Bool.{Bool, true, false, _&&_, _||_}
+use Prim.Native.Nat.{ℕ, zero, suc, _<_}
 use native.Mathlib.Omega.{arith}
 use native.Mathlib.Decide.{ℕ-discrete}
 use lib.Dec.{T, eqb, eqb→eq}
@@ -55,3 +54,9 @@ are-equal-5 a a′ b b′ c c′ d d′ e e′ t =
     let p = and-yes (eqb a a′) (eqb b b′ && (eqb c c′ && (eqb d d′ && eqb e e′))) t in
     let r = are-equal-4 b b′ c c′ d d′ e e′ (p .1) in
     (eqb→eq a a′ (p .0), r .0, r .1, r .2, r .3)
+
+-- ---- a test of either of two, that failed
+
+pub neither-first : (p r : Bool) → (p || r) ≡ false → p ≡ false
+neither-first true r e = e
+neither-first false r e = refl

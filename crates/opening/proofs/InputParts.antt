@@ -10,9 +10,9 @@ use Rattle.refusals.specs.Numbers.{numberOf}
 use Rattle.refusals.specs.declared.Refusal.{Refusal}
 use Rattle.refusals.proofs.Checks.{refused-first}
 use Rattle.parameters.specs.Sets.{ParameterSet}
-use Rattle.files.specs.Files.{fileLength, headOf}
+use Rattle.files.specs.Files.{fileBytes, headOf}
 use Rattle.files.specs.Calls.{readingHead}
-use Rattle.files.proofs.Passed.{file-length}
+use Rattle.files.proofs.Passed.{file-bytes}
 use Rattle.opening.specs.Program.{firstLength, fileChecks, openingPair, openingFiles}
 use Rattle.opening.proofs.FirstBytes.{head-of-part}
 use Rattle.opening.proofs.Parts.{end-taken}
@@ -28,8 +28,8 @@ end-dropped n input =
 rest-taken : (n : ℕ) (input : List ℕ) → take (length input - n) (drop n input) ≡ drop n input
 rest-taken n input = take-all (length input - n) (drop n input) (omega (arith, length-drop n input))
 
-head-inside : (kind N : ℕ) → 16 ≤ fileLength kind N
-head-inside kind N = omega (arith, file-length kind N)
+head-inside : (kind N : ℕ) → 16 ≤ fileBytes kind N
+head-inside kind N = omega (arith, file-bytes kind N)
 
 -- ---- a refused head, and one that is read
 
@@ -42,7 +42,7 @@ unfolding openingFiles firstLength
 input-refused input r e =
     pair-refused _ _ r (head-refused 2 _ r (head-of-part 2 input _ (head-inside 2 (headOf input .N)) ∙ e))
 
-module _ (input : List ℕ) (p : ParameterSet) (end : ℕ) (head : readingHead 2 input ≡ done p) (ends : end ≡ min (fileLength 2 (p .N)) (length input)) where
+module _ (input : List ℕ) (p : ParameterSet) (end : ℕ) (head : readingHead 2 input ≡ done p) (ends : end ≡ min (fileBytes 2 (p .N)) (length input)) where
   pub first-head : readingHead 2 (take end input) ≡ done p
   first-head = rw (ends, end-taken) (head-of-part 2 input _ (head-inside 2 (p .N)) ∙ head)
 

@@ -9,17 +9,17 @@ use lib.ListN.{length}
 use lib.Seq.{take-at, drop-at, take-all, drop-append-add}
 use Rattle.parameters.specs.Sets.{ParameterSet}
 use Rattle.etru.specs.declared.ArraySet.{ArraySet}
+use Rattle.files.specs.Files.{arrayAt}
 use Rattle.files.specs.Calls.{setChecks}
 use Rattle.files.proofs.SetChecks.{own}
-use Rattle.opening.specs.Program.{arrayOf}
 
 module _ (p : ParameterSet) (x : List ℤ) (long : length x ≡ 2 * p .N) where
-  pub first-array : (l : List ℤ) → arrayOf p 0 (x ++ l) ≡ x
-  unfolding arrayOf
+  pub first-array : (l : List ℤ) → arrayAt p 0 (x ++ l) ≡ x
+  unfolding arrayAt
   first-array l = rw mul-zero (take-at x l (2 * p .N) long)
 
-  pub later-array : (k : ℕ) (l : List ℤ) → arrayOf p (suc k) (x ++ l) ≡ arrayOf p k l
-  unfolding arrayOf
+  pub later-array : (k : ℕ) (l : List ℤ) → arrayAt p (suc k) (x ++ l) ≡ arrayAt p k l
+  unfolding arrayAt
   later-array k l =
       let e : 2 * p .N * suc k ≡ length x + 2 * p .N * k = omega arith in
       rw (e, drop-append-add)

@@ -12,9 +12,9 @@ use Rattle.refusals.specs.Outcomes.{Check, Outcome, done, refused, outcome}
 use Rattle.refusals.proofs.Checks.{passed-all, refused-first, fails-refused}
 use Rattle.parameters.specs.Sets.{parameterChecks}
 use Rattle.etru.proofs.AcceptedParameters.{accepted-parameters}
-use Rattle.files.specs.Files.{arraysOf, numberCount, fileLength, headOf}
+use Rattle.files.specs.Files.{arraysOf, fileNumbers, fileBytes, headOf}
 use Rattle.files.specs.Calls.{headChecks, contentChecks, readingChecks}
-use Rattle.files.proofs.Passed.{file-length}
+use Rattle.files.proofs.Passed.{file-bytes}
 use Rattle.files.proofs.Bounds.{numbers-few}
 use Rattle.opening.proofs.FirstBytes.{head-of-start, checks-of-start}
 use Rattle.opening.specs.Lines.{lineOf}
@@ -33,7 +33,7 @@ same-first cs ds ds′ a a′ h = go (outcome cs (tt {0})) refl
 -- ---- two files with the same head: they are refused alike, or N is at most 1,024 and the contents decide
 
 contents : ℕ → List ℕ → List Check
-contents kind file = contentChecks kind (headOf file) (numbersOf file) (numberCount kind (headOf file .N)) (length file)
+contents kind file = contentChecks kind (headOf file) (numbersOf file) (fileNumbers kind (headOf file .N)) (length file)
 
 parts : (kind : ℕ) (file : List ℕ) (ds : List Check) → fileChecks kind file ++ ds ≡ headChecks kind file ++ (parameterChecks (headOf file) ++ (contents kind file ++ ds))
 unfolding fileChecks readingChecks contents
@@ -55,11 +55,11 @@ start : (front rest : List ℕ) → 16 ≤ length front → take 16 front ≡ ta
 start front rest h = sym (take-append-le 16 front rest h)
 
 too-long : {A : Type 0} (file : List ℕ) (ds : List Check) (a : A) → 4112 < length file → headOf file .N ≤ 1024 → outcome (contents 3 file ++ ds) a ≡ refused 7
-unfolding contents contentChecks fileLength arraysOf
+unfolding contents contentChecks fileBytes arraysOf
 too-long file ds a l s =
-    let t = eqb (numberCount 3 (headOf file .N)) (numberCount 3 (headOf file .N)) in
-    fails-refused 7 (eqb (length file) (fileLength 3 (headOf file .N)) && t) _ a
-    (ap (_&& t) (ne-eqb (length file) (fileLength 3 (headOf file .N)) λ e. omega arith))
+    let t = eqb (fileNumbers 3 (headOf file .N)) (fileNumbers 3 (headOf file .N)) in
+    fails-refused 7 (eqb (length file) (fileBytes 3 (headOf file .N)) && t) _ a
+    (ap (_&& t) (ne-eqb (length file) (fileBytes 3 (headOf file .N)) λ e. omega arith))
 
 same-second : {A : Type 0} (file rest : List ℕ) (ds ds′ : List Check) (a a′ : A) → 4112 < length file → outcome (fileChecks 3 file ++ ds) a ≡ outcome (fileChecks 3 (file ++ rest) ++ ds′) a′
 same-second file rest ds ds′ a a′ l =
@@ -80,10 +80,10 @@ same-pair front rest n l h m =
 same-files : (front rest : List ℕ) → 20513 ≤ length front → openingFiles front ≡ openingFiles (front ++ rest)
 unfolding openingFiles firstLength
 same-files front rest l =
-    let n = fileLength 2 (headOf front .N) in
-    let e : 16 ≤ n = omega (arith, file-length 2 (headOf front .N)) in
+    let n = fileBytes 2 (headOf front .N) in
+    let e : 16 ≤ n = omega (arith, file-bytes 2 (headOf front .N)) in
     rw (← same-head front (front ++ rest) (start front rest (omega arith)))
-    (same-pair front rest n l e λ h. omega (arith, file-length 2 (headOf front .N), numbers-few 2 (headOf front .N) (rw (same-head (take n front) front (take-take 16 n front e)) at h)))
+    (same-pair front rest n l e λ h. omega (arith, file-bytes 2 (headOf front .N), numbers-few 2 (headOf front .N) (rw (same-head (take n front) front (take-take 16 n front e)) at h)))
 
 pub long-input-line : Long-input-line
 unfolding openingLine

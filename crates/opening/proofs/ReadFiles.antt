@@ -1,22 +1,22 @@
 -- A file that the program reads, by what reading its head and reading all of it answer.
-use mathlib.Core.Path.{_≡_, _∙_, ap}
+use mathlib.Core.Path.{_≡_}
 use mathlib.Core.List.{List, [], _∷_, _++_, append-assoc}
 use Prim.Native.Nat.{ℕ, _≤_}
 use lib.Dec.{T}
 use lib.IntN.{ℤ}
 use lib.ListN.{length}
-use Rattle.refusals.specs.Outcomes.{Outcome, done, refused, outcome, number, written}
+use Rattle.refusals.specs.Outcomes.{done, refused, outcome, number, written}
 use Rattle.refusals.specs.Numbers.{numberOf, answered}
 use Rattle.refusals.specs.declared.Answer.{Answer}
 use Rattle.refusals.specs.declared.Answer.the-variants.{Done, Refused}
 use Rattle.refusals.specs.declared.Refusal.{Refusal}
-use Rattle.refusals.proofs.Checks.{positive, done-by-number, refused-by-number, refused-plain, refused-first, done-all, done-parts}
+use Rattle.refusals.proofs.Checks.{positive, done-as-written, refused-by-number, refused-plain, refused-first, done-all, done-parts}
 use Rattle.refusals.proofs.Numbers.{number-positive}
 use Rattle.parameters.specs.Sets.{ParameterSet, parameterChecks}
 use Rattle.etru.specs.declared.ArraySet.{ArraySet}
 use Rattle.etru.specs.declared.ArraySet.the-variants.{F, G, ReducedModulo2, ReducedModuloQ}
 use Rattle.etru.proofs.AcceptedParameters.{accepted-parameters}
-use Rattle.files.specs.Files.{arraysOf, numberCount, headOf}
+use Rattle.files.specs.Files.{arraysOf, fileNumbers, fileBytes, headOf}
 use Rattle.files.specs.Calls.{headChecks, readingHead, setChecks, contentChecks, readingChecks, reading}
 use Rattle.files.proofs.Passed.{contents-passed}
 use Rattle.opening.specs.Program.{fileChecks, numbersOf}
@@ -31,9 +31,9 @@ positive-sets p (G ∷ rest) l = positive-sets p rest _
 positive-sets p (ReducedModulo2 ∷ rest) l = positive-sets p rest _
 positive-sets p (ReducedModuloQ ∷ rest) l = positive-sets p rest _
 
-positive-file : (kind : ℕ) (file : List ℕ) → T (positive (fileChecks kind file))
-unfolding fileChecks readingChecks headChecks parameterChecks contentChecks
-positive-file kind file = positive-sets (headOf file) (arraysOf kind) (numbersOf file)
+positive-file : (kind : ℕ) (file : List ℕ) (room : ℕ) → T (positive (readingChecks kind file room))
+unfolding readingChecks headChecks parameterChecks contentChecks
+positive-file kind file room = positive-sets (headOf file) (arraysOf kind) (numbersOf file)
 
 -- ---- a refused head
 
@@ -46,8 +46,9 @@ head-refused kind file r e =
 
 pub record Read (kind : ℕ) (p : ParameterSet) (file : List ℕ) (numbers : List ℤ) : Type 0 where
   pub head : headOf file ≡ p
+  pub numbers-are : numbersOf file ≡ numbers
+  pub long : length file ≡ fileBytes kind (p .N)
   pub checks : outcome (fileChecks kind file) (tt {0}) ≡ done (tt {0})
-  pub numbers-are : numbers ≡ numbersOf file
   pub sets : outcome (setChecks p (arraysOf kind) numbers) (tt {0}) ≡ done (tt {0})
 
 module _ (kind : ℕ) (file : List ℕ) (p : ParameterSet) (head : readingHead kind file ≡ done p) where
@@ -62,29 +63,32 @@ module _ (kind : ℕ) (file : List ℕ) (p : ParameterSet) (head : readingHead k
   pub N-small : p .N ≤ 1024
   N-small = accepted-parameters p accepted .N-small
 
-  -- what `read` answered
-  module _ (old : List ℤ) (room : length old ≡ numberCount kind (p .N)) (answer : Answer) (says : number (answered answer) ≡ number (reading kind file (length old))) where
-    reading-is : reading kind file (length old) ≡ outcome (fileChecks kind file) (numbersOf file)
-    unfolding reading fileChecks
-    reading-is = rw (room, head-is)
+  pub read-done : (room : ℕ) (numbers : List ℤ) → reading kind file room ≡ done numbers → Read kind p file numbers
+  unfolding reading readingChecks fileChecks
+  read-done room numbers e =
+      let d = done-parts (readingChecks kind file room) (numbersOf file) numbers e in
+      let k = done-all (headChecks kind file) _ _ _ (d .0) in
+      let m = done-all (parameterChecks (headOf file)) _ _ _ (k .1) in
+      let c = contents-passed kind (headOf file) (numbersOf file) room (length file) (m .1) in
+      record {
+        head = head-is;
+        numbers-are = d .1;
+        long = rw head-is at (c .file-is);
+        checks = rw (c .numbers-are) at (d .0);
+        sets = rw (head-is, d .1) at (c .sets);
+      }
 
-    number-is : (a : Answer) → answer ≡ a → number (outcome (fileChecks kind file) (numbersOf file)) ≡ number (answered a)
-    number-is a e = cc reading-is
+  -- what `read` answered
+  module _ (old : List ℤ) (answer : Answer) (says : number (answered answer) ≡ number (reading kind file (length old))) where
+    number-is : (a : Answer) → answer ≡ a → number (reading kind file (length old)) ≡ number (answered a)
+    number-is a e = cc
 
     pub file-read : (new : List ℤ) → answer ≡ Done → new ≡ written (reading kind file (length old)) old → Read kind p file new
-    unfolding fileChecks readingChecks
-    file-read new e w =
-        let d = done-by-number (fileChecks kind file) (numbersOf file) (positive-file kind file) (number-is Done e) in
-        let checks = done-parts (fileChecks kind file) _ _ d .0 in
-        let contents = done-all (parameterChecks (headOf file)) _ _ _ (done-all (headChecks kind file) _ _ _ checks .1) .1 in
-        let n : new ≡ numbersOf file = w ∙ ap (λ (o : Outcome (List ℤ)). written o old) (reading-is ∙ d) in
-        record {
-          head = head-is;
-          checks = checks;
-          numbers-are = n;
-          sets = rw (← head-is, n) (contents-passed kind (headOf file) (numbersOf file) _ _ contents .sets);
-        }
+    unfolding reading
+    file-read new e w = read-done (length old) new (done-as-written (readingChecks kind file (length old)) (numbersOf file) old new (positive-file kind file (length old)) (number-is Done e) w)
 
-    pub file-refused : (r : Refusal) → answer ≡ Refused r → outcome (fileChecks kind file) (tt {0}) ≡ refused (numberOf r)
-    file-refused r e =
-        refused-plain (fileChecks kind file) (numbersOf file) (numberOf r) (number-positive r) (refused-by-number _ (numberOf r) (number-positive r) (number-is (Refused r) e))
+    pub file-refused : length old ≡ fileNumbers kind (p .N) → (r : Refusal) → answer ≡ Refused r → outcome (fileChecks kind file) (tt {0}) ≡ refused (numberOf r)
+    unfolding reading fileChecks
+    file-refused room r e =
+        let f = refused-plain (readingChecks kind file (length old)) (numbersOf file) (numberOf r) (number-positive r) (refused-by-number _ (numberOf r) (number-positive r) (number-is (Refused r) e)) in
+        rw (room, ← head-is) at f

@@ -4,10 +4,10 @@ use mathlib.Core.Bool.{_&&_}
 use mathlib.Core.List.{List, [], _∷_}
 use Prim.Native.Nat.{ℕ, _+_, _*_, _≤_}
 use native.Mathlib.Omega.{arith}
-use lib.Dec.{T, eqb}
+use lib.Dec.{T, eqb, lit<}
 use lib.IntN.{ℤ}
 use lib.ListN.{length, take, drop, length-drop}
-use lib.Seq.{length-take-le, drop-drop}
+use lib.Seq.{length-take-le}
 use mir.Facts.{yes-and, yes-eqb}
 use Rattle.integers.proofs.Tests.{equal-4}
 use Rattle.refusals.specs.Outcomes.{Check, done, outcome}
@@ -18,31 +18,31 @@ use Rattle.packing.specs.Messages.{messageBytes}
 use Rattle.etru.specs.declared.ArraySet.the-variants.{F, G, ReducedModulo2, ReducedModuloQ}
 use Rattle.etru.specs.Scheme.{publicKey}
 use Rattle.etru.specs.Calls.{full, keyChecks, keyCheck, openingChecks, opening}
-use Rattle.files.specs.Files.{arraysOf}
+use Rattle.files.specs.Files.{arraysOf, arrayAt}
 use Rattle.files.specs.Calls.{setChecks}
-use Rattle.files.proofs.SetChecks.{own}
-use Rattle.opening.specs.Program.{arrayOf, inverseChecks, messageOf}
+use Rattle.files.proofs.SetChecks.{own, first-array, next-array}
+use Rattle.opening.specs.Program.{inverseChecks, messageOf}
 
 -- a part of the numbers that is array k
-pub part-is : (p : ParameterSet) (k : ℕ) (l : List ℤ) (n from : ℕ) → n ≡ 2 * p .N → from ≡ 2 * p .N * k → take n (drop from l) ≡ arrayOf p k l
-unfolding arrayOf
+pub part-is : (p : ParameterSet) (k : ℕ) (l : List ℤ) (n from : ℕ) → n ≡ 2 * p .N → from ≡ 2 * p .N * k → take n (drop from l) ≡ arrayAt p k l
+unfolding arrayAt
 part-is p k l n from e f = ap₂ (λ (x y : ℕ). take x (drop y l)) e f
 
 module _ (p : ParameterSet) (numbers : List ℤ) (accepted : outcome (parameterChecks p) (tt {0}) ≡ done (tt {0})) (long : length numbers ≡ 2 * p .N * 4) (sets : outcome (setChecks p (arraysOf 2) numbers) (tt {0}) ≡ done (tt {0})) where
   abbrev f : List ℤ
-  f = arrayOf p 0 numbers
+  f = arrayAt p 0 numbers
 
   abbrev F2 : List ℤ
-  F2 = arrayOf p 1 numbers
+  F2 = arrayAt p 1 numbers
 
   abbrev Fq : List ℤ
-  Fq = arrayOf p 2 numbers
+  Fq = arrayAt p 2 numbers
 
   abbrev g : List ℤ
-  g = arrayOf p 3 numbers
+  g = arrayAt p 3 numbers
 
-  array-long : (k : ℕ) → 2 * p .N * k + 2 * p .N ≤ 2 * p .N * 4 → length (arrayOf p k numbers) ≡ 2 * p .N
-  unfolding arrayOf
+  array-long : (k : ℕ) → 2 * p .N * k + 2 * p .N ≤ 2 * p .N * 4 → length (arrayAt p k numbers) ≡ 2 * p .N
+  unfolding arrayAt
   array-long k h = length-take-le (2 * p .N) (drop (2 * p .N * k) numbers) (omega (arith, length-drop (2 * p .N * k) numbers))
 
   -- the checks of the four arrays
@@ -52,12 +52,8 @@ module _ (p : ParameterSet) (numbers : List ℤ) (accepted : outcome (parameterC
   four-are : setChecks p (arraysOf 2) numbers ≡ four
   unfolding setChecks arraysOf
   four-are =
-      let w = 2 * p .N in
-      let e0 = part-is p 0 numbers w 0 refl (omega arith) in
-      let e1 = part-is p 1 numbers w w refl (omega arith) in
-      let e2 = ap (take w) (drop-drop w w numbers) ∙ part-is p 2 numbers w (w + w) refl (omega arith) in
-      let e3 = ap (λ (x : List ℤ). take w (drop w x)) (drop-drop w w numbers) ∙ ap (take w) (drop-drop w (w + w) numbers) ∙ part-is p 3 numbers w (w + w + w) refl (omega arith) in
-      λ i. own p F (e0 i) ∷ own p ReducedModulo2 (e1 i) ∷ own p ReducedModuloQ (e2 i) ∷ own p G (e3 i) ∷ []
+      let next = next-array p (arraysOf 2) numbers in
+      cc (first-array p (arraysOf 2) numbers, next 0 (lit< tt), next 1 (lit< tt), next 2 (lit< tt), next 3 (lit< tt))
 
   four-passed : outcome four (tt {0}) ≡ done (tt {0})
   four-passed = ap (λ (cs : List Check). outcome cs (tt {0})) (sym four-are) ∙ sets

@@ -24,62 +24,44 @@ use Rattle.etru.specs.Demand3.{AcceptedKey, Opens}
 use Rattle.etru.proofs.AcceptedParameters.{modulus-nonzero}
 use Rattle.etru.proofs.Passed.{Checking, key-passed, opening-passed}
 use Rattle.etru.proofs.Demand3.{Key, accepted-key, demand-3}
-use Rattle.files.specs.Files.{arraysOf, numberCount, fileLength, number16, unsignedAt, headOf, fileOf}
-use Rattle.files.specs.Calls.{headChecks, readingHead, setChecks, contentChecks, readingChecks, reading, writingChecks, writing}
+use Rattle.files.specs.Files.{arraysOf, fileNumbers, fileBytes, number16, unsignedAt, headOf, arrayAt, fileOf}
+use Rattle.files.specs.Calls.{setChecks, contentChecks, writingChecks, writing}
 use Rattle.files.proofs.SetChecks.{own}
 use Rattle.files.proofs.ArraysOfKinds.{private-arrays, sealed-arrays}
-use Rattle.files.proofs.Passed.{contents-passed, file-length}
+use Rattle.files.proofs.Passed.{file-bytes}
 use Rattle.files.proofs.RoundTrips.{reading-undoes-writing}
 use Rattle.opening.specs.Lines.{decimal, lineOf}
-use Rattle.opening.specs.Program.{firstLength, fileChecks, numbersOf, arrayOf, sameSet, pairChecks, inverseChecks, messageOf, openingPair, openingFiles, openingLine}
+use Rattle.opening.specs.Program.{firstLength, fileChecks, sameSet, pairChecks, inverseChecks, messageOf, openingPair, openingFiles, openingLine}
 use Rattle.opening.specs.Promises.{OpensFiles, Written-files-open}
 use Rattle.opening.proofs.JoinedArrays.{first-array, later-array, first-check, last-check}
+use Rattle.opening.proofs.ReadFiles.{Read, read-done}
 
 -- ---- writing, where all is in order
 
-writes : (kind : ℕ) (p : ParameterSet) (l : List ℤ) → outside 1 3 kind ≡ false → outcome (parameterChecks p) (tt {0}) ≡ done (tt {0}) → length l ≡ numberCount kind (p .N) → outcome (setChecks p (arraysOf kind) l) (tt {0}) ≡ done (tt {0}) → writing kind p l (fileLength kind (p .N)) ≡ done (fileOf kind p l)
+writes : (kind : ℕ) (p : ParameterSet) (l : List ℤ) → outside 1 3 kind ≡ false → outcome (parameterChecks p) (tt {0}) ≡ done (tt {0}) → length l ≡ fileNumbers kind (p .N) → outcome (setChecks p (arraysOf kind) l) (tt {0}) ≡ done (tt {0}) → writing kind p l (fileBytes kind (p .N)) ≡ done (fileOf kind p l)
 unfolding writing writingChecks contentChecks
 writes kind p l k c n s =
     passed 19 _ _ k
     ∙ passed-all (parameterChecks p) _ _ c
-    ∙ holds-passed 7 (eqb (fileLength kind (p .N)) (fileLength kind (p .N)) && eqb (length l) (numberCount kind (p .N))) _ _ (equal-2 {a = fileLength kind (p .N)} refl n)
+    ∙ holds-passed 7 (eqb (fileBytes kind (p .N)) (fileBytes kind (p .N)) && eqb (length l) (fileNumbers kind (p .N))) _ _ (equal-2 {a = fileBytes kind (p .N)} refl n)
     ∙ done-with (setChecks p (arraysOf kind) l) _ s
 
 -- ---- a file that is written, as the program reads it
 
-record Reads (kind : ℕ) (p : ParameterSet) (l : List ℤ) (file : List ℕ) : Type 0 where
-  head : headOf file ≡ p
-  numbers : numbersOf file ≡ l
-  long : length file ≡ fileLength kind (p .N)
-  checks : outcome (fileChecks kind file) (tt {0}) ≡ done (tt {0})
-
-written-reads : (kind : ℕ) (p : ParameterSet) (l : List ℤ) (room : ℕ) (file : List ℕ) → writing kind p l room ≡ done file → Reads kind p l file
-unfolding readingHead reading readingChecks fileChecks
-written-reads kind p l room file e =
-    let r = reading-undoes-writing kind p l room file e in
-    let h = done-parts (headChecks kind file ++ parameterChecks (headOf file)) (headOf file) p (r .0) in
-    let n = done-parts (readingChecks kind file (length l)) (numbersOf file) l (r .1) in
-    let k = done-all (headChecks kind file) _ _ _ (n .0) in
-    let m = done-all (parameterChecks (headOf file)) _ _ _ (k .1) in
-    let c = contents-passed kind (headOf file) (numbersOf file) (length l) (length file) (m .1) in
-    record {
-      head = h .1;
-      numbers = n .1;
-      long = c .file-is ∙ ap (λ (p : ParameterSet). fileLength kind (p .N)) (h .1);
-      checks = subst (λ (room : ℕ). outcome (readingChecks kind file room) (tt {0}) ≡ done (tt {0})) (c .numbers-are) (n .0);
-    }
+written-read : (kind : ℕ) (p : ParameterSet) (l : List ℤ) (room : ℕ) (file : List ℕ) → writing kind p l room ≡ done file → Read kind p file l
+written-read kind p l room file e = let r = reading-undoes-writing kind p l room file e in read-done kind file p (r .0) (length l) l (r .1)
 
 -- ---- two files, parted where the first one's head says
 
-first-length : (first second : List ℕ) → 16 ≤ length first → firstLength (first ++ second) ≡ fileLength 2 (headOf first .N)
+first-length : (first second : List ℕ) → 16 ≤ length first → firstLength (first ++ second) ≡ fileBytes 2 (headOf first .N)
 unfolding firstLength headOf unsignedAt
 first-length first second h =
-    ap₂ (λ (high low : ℕ). fileLength 2 (number16 high low)) (List·getD-append first second 0 6 (omega arith)) (List·getD-append first second 0 7 (omega arith))
+    ap₂ (λ (high low : ℕ). fileBytes 2 (number16 high low)) (List·getD-append first second 0 6 (omega arith)) (List·getD-append first second 0 7 (omega arith))
 
-parted : (first second : List ℕ) → length first ≡ fileLength 2 (headOf first .N) → openingFiles (first ++ second) ≡ openingPair first second
+parted : (first second : List ℕ) → length first ≡ fileBytes 2 (headOf first .N) → openingFiles (first ++ second) ≡ openingPair first second
 unfolding openingFiles
 parted first second e =
-    let f = first-length first second (omega (arith, file-length 2 (headOf first .N))) in
+    let f = first-length first second (omega (arith, file-bytes 2 (headOf first .N))) in
     ap₂ openingPair (take-at first second _ (e ∙ sym f)) (drop-at first second _ (e ∙ sym f))
 
 -- ---- the pair of an accepted key and what was sealed for it
@@ -120,7 +102,7 @@ module _ {p : ParameterSet} {f F2 Fq g h φ : List ℤ} {message : List ℕ} (ac
   private-sets : outcome (setChecks p (arraysOf 2) numbers) (tt {0}) ≡ done (tt {0})
   unfolding keyChecks
   private-sets =
-      rw (private-arrays 2 refl, first-check p f (key .f-full), first-check p F2 (key .F2-full), first-check p Fq (key-arrays .Fq-ready .long), last-check p g (key-arrays .g-ready .long))
+      rw (private-arrays 2 refl, first-check p f (key .f-full), first-check p F2 (key .F2-full), first-check p Fq (key-arrays .Fq-ready .long), last-check p g (key-arrays .g-units .long))
       (done-all (own p F f ∷ own p ReducedModulo2 F2 ∷ own p ReducedModuloQ Fq ∷ own p G g ∷ []) _ _ _ (done-passed 7 _ _ _ _ key-checks .1) .0)
 
   sealed-sets : outcome (setChecks p (arraysOf 3) (o .e)) (tt {0}) ≡ done (tt {0})
@@ -136,25 +118,25 @@ module _ {p : ParameterSet} {f F2 Fq g h φ : List ℤ} {message : List ℕ} (ac
   sealed : List ℕ
   sealed = fileOf 3 p (o .e)
 
-  writes-private : writing 2 p numbers (fileLength 2 (p .N)) ≡ done private
-  unfolding private outside numberCount arraysOf
+  writes-private : writing 2 p numbers (fileBytes 2 (p .N)) ≡ done private
+  unfolding private outside fileNumbers arraysOf
   writes-private =
       writes 2 p numbers refl (key .parameters .checks)
-      (simp length-append (omega (arith, key .f-full, key .F2-full, key-arrays .Fq-ready .long, key-arrays .g-ready .long)))
+      (simp length-append (omega (arith, key .f-full, key .F2-full, key-arrays .Fq-ready .long, key-arrays .g-units .long)))
       private-sets
 
-  writes-sealed : writing 3 p (o .e) (fileLength 3 (p .N)) ≡ done sealed
-  unfolding sealed outside numberCount arraysOf
+  writes-sealed : writing 3 p (o .e) (fileBytes 3 (p .N)) ≡ done sealed
+  unfolding sealed outside fileNumbers arraysOf
   writes-sealed = writes 3 p (o .e) refl (key .parameters .checks) (omega (arith, e-full)) sealed-sets
 
   -- the pair passes its checks, and opens
-  f-is : arrayOf p 0 numbers ≡ f
+  f-is : arrayAt p 0 numbers ≡ f
   f-is = first-array p f (key .f-full) (F2 ++ (Fq ++ g))
 
-  F2-is : arrayOf p 1 numbers ≡ F2
+  F2-is : arrayAt p 1 numbers ≡ F2
   F2-is = later-array p f (key .f-full) 0 (F2 ++ (Fq ++ g)) ∙ first-array p F2 (key .F2-full) (Fq ++ g)
 
-  Fq-is : arrayOf p 2 numbers ≡ Fq
+  Fq-is : arrayAt p 2 numbers ≡ Fq
   Fq-is =
       later-array p f (key .f-full) 1 (F2 ++ (Fq ++ g))
       ∙ later-array p F2 (key .F2-full) 0 (Fq ++ g)
@@ -173,12 +155,12 @@ module _ {p : ParameterSet} {f F2 Fq g h φ : List ℤ} {message : List ℕ} (ac
   files-open : openingFiles (private ++ sealed) ≡ done message
   unfolding openingPair
   files-open =
-      let r = written-reads 2 p numbers (fileLength 2 (p .N)) private writes-private in
-      let t = written-reads 3 p (o .e) (fileLength 3 (p .N)) sealed writes-sealed in
+      let r = written-read 2 p numbers (fileBytes 2 (p .N)) private writes-private in
+      let t = written-read 3 p (o .e) (fileBytes 3 (p .N)) sealed writes-sealed in
       parted private sealed (rw (r .head) (r .long))
       ∙ passed-all (fileChecks 2 private) _ _ (r .checks)
       ∙ passed-all (fileChecks 3 sealed) _ _ (t .checks)
-      ∙ rw (r .head, r .numbers, t .head, t .numbers) pair-opens
+      ∙ rw (r .head, r .numbers-are, t .head, t .numbers-are) pair-opens
 
   files-line : OpensFiles p f F2 Fq g h φ message
   unfolding openingLine decimal

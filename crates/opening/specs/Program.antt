@@ -1,7 +1,7 @@
 -- The opening program (document 01, 'Files' and 'Where each number is checked').
 use mathlib.Core.Bool.{Bool, not, _&&_}
 use mathlib.Core.List.{List, [], _∷_, _++_}
-use Prim.Native.Nat.{ℕ, _*_}
+use Prim.Native.Nat.{ℕ}
 use lib.Dec.{eqb}
 use lib.IntN.{ℤ}
 use lib.ListN.{length, take, drop}
@@ -9,10 +9,11 @@ use Rattle.refusals.specs.Outcomes.{Check, Outcome, outcome, done, refused, _if
 use Rattle.refusals.specs.Numbers.{numberOf}
 use Rattle.eisenstein.specs.Values.{same}
 use Rattle.parameters.specs.Sets.{ParameterSet}
-use Rattle.polynomials.specs.Polynomials.{coefficient, convolution, one, congruentQ, congruent2}
+use Rattle.polynomials.specs.Polynomials.{coefficient}
 use Rattle.packing.specs.Messages.{unpacked}
 use Rattle.etru.specs.Scheme.{opened}
-use Rattle.files.specs.Files.{numberCount, fileLength, headOf, numbersFrom}
+use Rattle.etru.specs.Calls as etru
+use Rattle.files.specs.Files.{fileNumbers, fileBytes, headOf, numbersFrom, arrayAt}
 use Rattle.files.specs.Calls.{readingChecks}
 use Rattle.opening.specs.Lines.{lineOf}
 use Rattle.opening.specs.declared.Opened.{Opened}
@@ -20,18 +21,15 @@ use Rattle.opening.specs.declared.Opened.the-variants.{Message, Refused}
 
 -- "reads the first file as far as its own head says, then all the rest as the second"
 unfoldable pub firstLength : List ℕ → ℕ
-firstLength input = fileLength 2 (headOf input .N)
+firstLength input = fileBytes 2 (headOf input .N)
 
 -- A file, read with room for its numbers.
 unfoldable pub fileChecks : ℕ → List ℕ → List Check
-fileChecks kind file = readingChecks kind file (numberCount kind (headOf file .N))
+fileChecks kind file = readingChecks kind file (fileNumbers kind (headOf file .N))
 
--- The numbers of a file, and array k of them.
+-- The numbers of a file.
 abbrev pub numbersOf : List ℕ → List ℤ
 numbersOf file = numbersFrom (drop 16 file)
-
-unfoldable pub arrayOf : ParameterSet → ℕ → List ℤ → List ℤ
-arrayOf p k numbers = take (2 * p .N) (drop (2 * p .N * k) numbers)
 
 -- "the two files' parameters differ"
 unfoldable pub sameSet : ParameterSet → ParameterSet → Bool
@@ -39,17 +37,14 @@ sameSet p p′ = eqb (p .N) (p′ .N) && (same (p .q) (p′ .q) && (eqb (p .s) (
 
 -- "then 20, 13, 14": of a private file's parameters and numbers f, F2, Fq, g, and a sealed file's parameters
 unfoldable pub inverseChecks : ParameterSet → List ℤ → List Check
-inverseChecks p numbers =
-    13 if not (congruent2 (p .N) (convolution (p .N) (coefficient (arrayOf p 0 numbers)) (coefficient (arrayOf p 1 numbers))) one)
-    ∷ 14 if not (congruentQ (p .N) (p .q) (convolution (p .N) (coefficient (arrayOf p 0 numbers)) (coefficient (arrayOf p 2 numbers))) one)
-    ∷ []
+inverseChecks p numbers = etru.inverseChecks (p .N) (p .q) (arrayAt p 0 numbers) (arrayAt p 1 numbers) (arrayAt p 2 numbers)
 
 unfoldable pub pairChecks : ParameterSet → List ℤ → ParameterSet → List Check
 pairChecks p numbers p′ = 20 if not (sameSet p p′) ∷ inverseChecks p numbers
 
 -- The message of f, F2 and e.
 unfoldable pub messageOf : ParameterSet → (numbers e : List ℤ) → List ℕ
-messageOf p numbers e = unpacked (p .N) (opened p (coefficient (arrayOf p 0 numbers)) (coefficient (arrayOf p 1 numbers)) (coefficient e))
+messageOf p numbers e = unpacked (p .N) (opened p (coefficient (arrayAt p 0 numbers)) (coefficient (arrayAt p 1 numbers)) (coefficient e))
 
 -- The two files, one after the other.
 unfoldable pub openingPair : (first second : List ℕ) → Outcome (List ℕ)

@@ -8,7 +8,7 @@ use Rattle.refusals.specs.Outcomes.{done}
 use Rattle.parameters.specs.Sets.{ParameterSet}
 use Rattle.etru.specs.Calls.{sealing}
 use Rattle.etru.specs.Demand3.{AcceptedKey, Ephemeral, Message}
-use Rattle.files.specs.Files.{fileLength}
+use Rattle.files.specs.Files.{fileBytes}
 use Rattle.files.specs.Calls.{writing}
 use Rattle.opening.specs.Lines.{hex}
 use Rattle.opening.specs.Program.{openingLine}
@@ -19,8 +19,8 @@ pub record OpensFiles (p : ParameterSet) (f F2 Fq g h φ : List ℤ) (message : 
   pub private : List ℕ
   pub sealed : List ℕ
   pub seals : sealing p h φ message (2 * p .N) ≡ done e
-  pub writes-private : writing 2 p (f ++ (F2 ++ (Fq ++ g))) (fileLength 2 (p .N)) ≡ done private
-  pub writes-sealed : writing 3 p e (fileLength 3 (p .N)) ≡ done sealed
+  pub writes-private : writing 2 p (f ++ (F2 ++ (Fq ++ g))) (fileBytes 2 (p .N)) ≡ done private
+  pub writes-sealed : writing 3 p e (fileBytes 3 (p .N)) ≡ done sealed
   pub line : openingLine (private ++ sealed) ≡ 48 ∷ 32 ∷ hex message ++ (10 ∷ [])
 
 abbrev pub Written-files-open : Type 0

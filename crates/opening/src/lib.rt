@@ -1,14 +1,14 @@
 // The opening program's work: from its input to the line that it prints.
-// Any input has its line. At every N the work takes 81 KiB of stack.
+// It reads and prints nothing itself. Any input has its line. At every N the work takes 105 KiB of stack.
 ghost use mathlib.Core.Path.{_≡_};
 ghost use mathlib.Core.List.{_++_};
+ghost use Prim.Native.Nat.{min};
 ghost use lib.ListN.{length, drop};
 ghost use Rattle.refusals.specs.Outcomes.{number, written};
 ghost use Rattle.refusals.specs.Numbers.{answered};
 ghost use Rattle.opening.specs.Lines.{lineOf};
 ghost use Rattle.opening.specs.Program.{openingFiles, openingLine, openedIs, lineWriting, lineLength};
 
-mod arrays;
 mod lines;
 mod messages;
 mod private_files;
@@ -27,11 +27,20 @@ pub(crate) enum Opened {
     Refused(Refusal),
 }
 
+pub(crate) fn least(x: usize, y: usize) -> usize
+    ensures { λ r. ⌜ r ≡ min x y ⌝ }
+{
+    if x < y {
+        return x;
+    }
+    y
+}
+
 fn open_input(input: &[u8], message: &mut [u8]) -> Opened
     requires { ⌜ length (now message) ≡ 256 ⌝ }
     ensures { λ r. ⌜ openedIs r (now (message .exit)) ≡ openingFiles (now (input .entry)) ⌝ }
 {
-    match files::read_head(2, input) {
+    match files::read_head(files::PRIVATE, input) {
         Made::Accepted(p) => private_files::open_private(p, input, message),
         Made::Refused(refusal) => Opened::Refused(refusal),
     }
@@ -52,7 +61,7 @@ fn write_opened(opened: Opened, message: &[u8], line: &mut [u8]) -> usize
     match opened {
         Opened::Message(n) => {
             // No message is longer than its room.
-            let end = arrays::least(n, message.len());
+            let end = least(n, message.len());
             lines::write_message(&message[..end], line)
         }
         Opened::Refused(refusal) => lines::write_refusal(refusal.number(), line),

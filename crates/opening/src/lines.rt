@@ -11,9 +11,9 @@ fn hex_digit(d: u8) -> u8
     ensures { λ r. ⌜ r ≡ hexDigit d ⌝ }
 {
     if d < 10 {
-        return 48 + d;
+        return b'0' + d;
     }
-    55 + d
+    b'A' + (d - 10)
 }
 
 // Answers the length of the line.
@@ -42,14 +42,14 @@ pub(crate) fn write_refusal(number: u32, line: &mut [u8]) -> usize
 {
     let n = number as u8;
     if n < 10 {
-        line[0] = 48 + n;
+        line[0] = b'0' + n;
         line[1] = b' ';
         line[2] = b'-';
         line[3] = b'\n';
         return 4;
     }
-    line[0] = 48 + n / 10;
-    line[1] = 48 + n % 10;
+    line[0] = b'0' + n / 10;
+    line[1] = b'0' + n % 10;
     line[2] = b' ';
     line[3] = b'-';
     line[4] = b'\n';

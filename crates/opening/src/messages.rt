@@ -12,7 +12,6 @@ ghost use Rattle.files.specs.Files.{arraysOf};
 ghost use Rattle.files.specs.Calls.{setChecks};
 ghost use Rattle.opening.specs.Program.{sameSet, inverseChecks, pairChecks, messageOf, openedIs};
 use crate::Opened;
-use crate::arrays::one_array;
 use parameters::Parameters;
 use refusals::Answer;
 use refusals::Refusal;
@@ -23,7 +22,7 @@ fn open_message(p: Parameters, f: &[i32], f2: &[i32], e: &[i32], message: &mut [
     ensures { λ r. ⌜ openedIs r (now (message .exit)) ≡ opening (setOf p) (now (f .entry)) (now (f2 .entry)) (now (e .entry)) (messageBytes (p .n)) ⌝ }
 {
     let n = p.n;
-    let k = (n as usize + 3) / 4;
+    let k = etru::message_bytes(n);
     match etru::open(p, f, f2, e, &mut message[..k]) {
         Answer::Done => Opened::Message(k),
         Answer::Refused(refusal) => Opened::Refused(refusal),
@@ -42,14 +41,14 @@ fn open_checked_in(
     ensures { λ r. ⌜ openedIs r (now (message .exit)) ≡ outcome (inverseChecks (setOf p) (now (numbers .entry))) (messageOf (setOf p) (now (numbers .entry)) (now (e .entry))) ⌝ }
 {
     let n = p.n;
-    let one = 2 * (n as usize);
-    let two = 2 * one;
-    let three = 3 * one;
-    let four = 4 * one;
-    let f = &numbers[..one];
-    let f2 = &numbers[one..two];
-    let fq = &numbers[two..three];
-    let g = &numbers[three..four];
+    let f_end = 2 * (n as usize);
+    let f2_end = 2 * f_end;
+    let fq_end = 3 * f_end;
+    let g_end = 4 * f_end;
+    let f = &numbers[..f_end];
+    let f2 = &numbers[f_end..f2_end];
+    let fq = &numbers[f2_end..fq_end];
+    let g = &numbers[fq_end..g_end];
     match etru::check_key(p, f, f2, fq, g, h) {
         Answer::Done => open_message(p, f, f2, e, message),
         Answer::Refused(refusal) => Opened::Refused(refusal),
@@ -62,7 +61,7 @@ fn open_checked(p: Parameters, numbers: &[i32], e: &[i32], message: &mut [u8]) -
 {
     let n = p.n;
     let k = 2 * (n as usize);
-    let mut h = one_array();
+    let mut h = etru::zeros();
     open_checked_in(p, numbers, e, &mut h[..k], message)
 }
 

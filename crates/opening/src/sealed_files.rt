@@ -9,7 +9,6 @@ ghost use Rattle.files.specs.Files.{arraysOf, headOf};
 ghost use Rattle.files.specs.Calls.{setChecks, readingHead};
 ghost use Rattle.opening.specs.Program.{fileChecks, numbersOf, pairChecks, messageOf, openedIs};
 use crate::Opened;
-use crate::arrays::one_array;
 use crate::messages::open_pair;
 use parameters::Made;
 use parameters::Parameters;
@@ -27,7 +26,7 @@ fn open_sealed_in(
     requires { ⌜ (outcome (parameterChecks (setOf p)) (tt {0}) ≡ done (tt {0})) × (length (now numbers) ≡ 2 * p .n * 4) × (outcome (setChecks (setOf p) (arraysOf 2) (now numbers)) (tt {0}) ≡ done (tt {0})) × (readingHead 3 (now file) ≡ done (setOf sealed)) × (length (now e) ≡ 2 * sealed .n) × (length (now message) ≡ 256) ⌝ }
     ensures { λ r. ⌜ openedIs r (now (message .exit)) ≡ outcome (fileChecks 3 (now (file .entry)) ++ pairChecks (setOf p) (now (numbers .entry)) (headOf (now (file .entry)))) (messageOf (setOf p) (now (numbers .entry)) (numbersOf (now (file .entry)))) ⌝ }
 {
-    match files::read(3, file, e) {
+    match files::read(files::SEALED, file, e) {
         Answer::Done => open_pair(p, numbers, sealed, e, message),
         Answer::Refused(refusal) => Opened::Refused(refusal),
     }
@@ -45,7 +44,7 @@ fn open_sealed_with(
 {
     let n = sealed.n;
     let k = 2 * (n as usize);
-    let mut e = one_array();
+    let mut e = etru::zeros();
     open_sealed_in(p, numbers, sealed, file, &mut e[..k], message)
 }
 
@@ -54,7 +53,7 @@ pub(crate) fn open_sealed(p: Parameters, numbers: &[i32], file: &[u8], message: 
     requires { ⌜ (outcome (parameterChecks (setOf p)) (tt {0}) ≡ done (tt {0})) × (length (now numbers) ≡ 2 * p .n * 4) × (outcome (setChecks (setOf p) (arraysOf 2) (now numbers)) (tt {0}) ≡ done (tt {0})) × (length (now message) ≡ 256) ⌝ }
     ensures { λ r. ⌜ openedIs r (now (message .exit)) ≡ outcome (fileChecks 3 (now (file .entry)) ++ pairChecks (setOf p) (now (numbers .entry)) (headOf (now (file .entry)))) (messageOf (setOf p) (now (numbers .entry)) (numbersOf (now (file .entry)))) ⌝ }
 {
-    match files::read_head(3, file) {
+    match files::read_head(files::SEALED, file) {
         Made::Accepted(sealed) => open_sealed_with(p, numbers, sealed, file, message),
         Made::Refused(refusal) => Opened::Refused(refusal),
     }

@@ -1,8 +1,8 @@
 -- Packing and unpacking undo each other.
 use mathlib.Core.Path.{_≡_, refl, sym, _∙_, ap, ap₂, subst}
 use mathlib.Core.Bool.{Bool, true, false, not, cond, _&&_, _||_}
-use mathlib.Core.List.{List, [], _∷_}
-use mathlib.Core.Logic.{_⊎_, inl, inr, ⊎-elim}
+use mathlib.Core.List.{List}
+use mathlib.Core.Logic.{⊎-elim}
 use Prim.Native.Nat.{ℕ, zero, suc, _+_, _-_, _*_, _/_, _%_, _^_, _≤_, _<_}
 use native.Mathlib.Omega.{arith}
 use native.Mathlib.Decide.{decLt, ℕ-discrete}
@@ -15,7 +15,7 @@ use mir.Facts.{T-not-not, and-yes, or-yes, ltb-yes}
 use Rattle.refusals.specs.Outcomes.{done}
 use Rattle.refusals.proofs.Checks.{passed, holds-passed, none-left, done-passed, done-holds, done-value}
 use Rattle.parameters.specs.Sets.{outside}
-use Rattle.integers.proofs.Tests.{every, every-at, equal-2}
+use Rattle.integers.proofs.Tests.{every-at, equal-2}
 use Rattle.eisenstein.specs.Values.{ℤ[ω], value, same}
 use Rattle.eisenstein.specs.Reduction.{bit, mod2}
 use Rattle.eisenstein.proofs.Equality.{same-true}

@@ -7,7 +7,7 @@ use lib.Dec.{T}
 use lib.IntN.{ℤ}
 use lib.ListN.{length, getD}
 use Rattle.refusals.specs.Outcomes.{done}
-use Rattle.polynomials.specs.Polynomials.{Polynomial, coefficient, array, reduced2}
+use Rattle.polynomials.specs.Polynomials.{Polynomial, reduced2}
 use Rattle.packing.specs.Messages.{messageBytes, packed, unpacked, spareBitSet}
 use Rattle.packing.specs.Calls.{packing, unpacking}
 

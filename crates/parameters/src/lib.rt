@@ -1,4 +1,5 @@
 // The parameter set of the scheme, with its limits and a maker that refuses.
+// It chooses no set, and knows no array.
 // Every operation on a parameter set begins with `check`, so none relies on how its set was made.
 ghost use mathlib.Core.Path.{_≡_};
 ghost use mathlib.Core.Bool.{false, not, _&&_, _||_};

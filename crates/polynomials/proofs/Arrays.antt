@@ -4,7 +4,6 @@ use mathlib.Core.List.{List, [], _∷_}
 use mathlib.Core.Logic.{_≢_}
 use Prim.Native.Nat.{ℕ, zero, suc, _+_, _*_, _<_}
 use native.Mathlib.Omega.{arith}
-use native.Mathlib.Decide.{ℕ-discrete}
 use lib.IntN.{ℤ, pos}
 use lib.ListN.{length, getD, set, length-set}
 use lib.Seq.{getD-set-same, getD-set-other}
@@ -68,14 +67,6 @@ stored-elsewhere l i k a b ne = ap₂ value (past (2 * k) (λ e. ne (omega arith
 -- coefficients known one by one make up an array
 pub array-by-coefficients : (N : ℕ) (l : List ℤ) (x : Polynomial) → length l ≡ 2 * N → ((i : ℕ) → i < N → coefficient l i ≡ x i) → l ≡ array N x
 array-by-coefficients N l x e h = sym (array-coefficients N l e) ∙ array-same N h
-
--- one more coefficient of an array that is filled from the front
-pub filled-more : (l : List ℤ) (i : ℕ) (a b : ℤ) (x : Polynomial) → 2 * i + 1 < length l → ((k : ℕ) → k < i → coefficient l k ≡ x k) → value a b ≡ x i → (k : ℕ) → k < i + 1 → coefficient (set (set l (2 * i) a) (2 * i + 1) b) k ≡ x k
-filled-more l i a b x h f e k p = go (ℕ-discrete k i)
-  where
-    go : Dec (k ≡ i) → coefficient (set (set l (2 * i) a) (2 * i + 1) b) k ≡ x k
-    go (yes q) = ap (coefficient (set (set l (2 * i) a) (2 * i + 1) b)) q ∙ stored-at l i a b h ∙ e ∙ ap x (sym q)
-    go (no q) = stored-elsewhere l i k a b q ∙ f k (omega arith)
 
 pub stored-length : (l : List ℤ) (i : ℕ) (a b : ℤ) → length (set (set l (2 * i) a) (2 * i + 1) b) ≡ length l
 stored-length l i a b = length-set (set l (2 * i) a) (2 * i + 1) b ∙ length-set l (2 * i) a

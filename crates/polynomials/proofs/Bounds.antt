@@ -1,19 +1,17 @@
 -- Bounds on norms, for every N and with no square root: a value is within B if its norm is at most B². Sums add their bounds, so a convolution with an operand of t units is within t times a bound of the other.
-use mathlib.Core.Path.{_≡_, refl, sym, _∙_, ap, ap₂, subst}
-use mathlib.Core.Bool.{Bool, true, false, not, cond, _&&_, _||_}
+use mathlib.Core.Path.{_≡_, sym, _∙_, ap, ap₂, subst}
+use mathlib.Core.Bool.{Bool, true, false, cond}
 use Prim.Native.Nat.{ℕ, zero, suc, _+_, _*_, _≤_, _<_}
 use native.Mathlib.Omega.{arith}
 use native.Mathlib.Nat.{mul-le-mul, add-mul, zero-mul, one-mul}
-use lib.Dec.{T}
 use lib.IntN.{ℤ, pos, natAbs, _+ℤ_, _-ℤ_, _*ℤ_}
-use lib.Signed.{_≤ℤ_}
 use Rattle.integers.proofs.Ring.{ring, con, _⊕_, _⊝_, _⊗_, _⊜_}
 use Rattle.integers.proofs.Absolute.{square, square-le, natAbs-+}
-use Rattle.eisenstein.specs.Values.{ℤ[ω], value, 𝟘, norm, _+ω_, _*ω_, same}
-use Rattle.polynomials.specs.Polynomials.{Polynomial, count}
+use Rattle.eisenstein.specs.Values.{ℤ[ω], 𝟘, norm, _+ω_, _*ω_}
+use Rattle.polynomials.specs.Polynomials.{count}
 use Rattle.polynomials.proofs.Sums.{total}
 use Rattle.polynomials.proofs.Eisenstein as Z
-use Rattle.eisenstein.proofs.Norms.{form, norm-form, norm-is, norm-*}
+use Rattle.eisenstein.proofs.Norms.{norm-form, norm-*}
 
 pub record Within (b : ℕ) (x : ℤ[ω]) : Type 0 where
   pub within : norm x ≤ b * b

@@ -1,15 +1,14 @@
 -- Convolution over a finite group of indices, in a commutative ring: (x ∗ y) at i is the sum of x j · y k over all j and k with j·k = i.
 -- It is bilinear and associative, has a unit on both sides, keeps congruences, and commutes where the group does.
-use mathlib.Core.Path.{_≡_, refl, sym, _∙_, ap, ap₂, subst}
+use mathlib.Core.Path.{_≡_, refl, sym, _∙_, ap, ap₂}
 use mathlib.Core.Bool.{Bool, true, false, cond}
 use mathlib.Core.Logic.{_≢_}
-use Prim.Native.Nat.{ℕ, zero, suc, _<_}
+use Prim.Native.Nat.{ℕ, zero, _<_}
 use native.Mathlib.Omega.{arith}
-use native.Mathlib.Decide.{ℕ-discrete}
 use borrow.Author.Tests.{eq-eqb, ne-eqb}
 use lib.Dec.{eqb}
 use Rattle.polynomials.proofs.Rings.{Ring, Congruence, Group}
-use Rattle.polynomials.proofs.Sums.{total, zero-add, zero-mul, total-same, total-zero, total-add, total-mul, total-mul-right, total-swap, total-one, total-congruent}
+use Rattle.polynomials.proofs.Sums.{total, zero-mul, total-same, total-zero, total-add, total-mul, total-mul-right, total-swap, total-one, total-congruent}
 
 -- a where the test holds, else zero
 abbrev pub pick : {A : Type 0} → Ring A → Bool → A → A
@@ -41,6 +40,10 @@ module _ {A : Type 0} (R : Ring A) {n : ℕ} (G : Group n) where
 
   pick-yes : {i j : ℕ} (a : A) → i ≡ j → pick R (eqb i j) a ≡ a
   pick-yes {i} {j} a e = ap (λ (t : Bool). pick R t a) (eq-eqb i j e)
+
+  pick-none : (t : Bool) → pick R t 𝟎 ≡ 𝟎
+  pick-none true = refl
+  pick-none false = refl
 
   pick-no : {i j : ℕ} (a : A) → i ≢ j → pick R (eqb i j) a ≡ 𝟎
   pick-no {i} {j} a e = ap (λ (t : Bool). pick R t a) (ne-eqb i j e)
@@ -76,12 +79,6 @@ module _ {A : Type 0} (R : Ring A) {n : ℕ} (G : Group n) where
     where
       distribute : (a b c : A) → _⊗_ (_⊕_ a b) c ≡ _⊕_ (_⊗_ a c) (_⊗_ b c)
       distribute a b c = mul-comm (_⊕_ a b) c ∙ mul-add c a b ∙ ap₂ _⊕_ (mul-comm c a) (mul-comm c b)
-
-  pub conv-scale-left : (a : A) (x y : ℕ → A) (i : ℕ) → conv R G (λ j. _⊗_ a (x j)) y i ≡ _⊗_ a (conv R G x y i)
-  unfolding conv
-  conv-scale-left a x y i =
-      total-same R n (λ j l. total-same R n (λ k m. ap (pick R (eqb (op j k) i)) (mul-assoc a (x j) (y k)) ∙ sym (mul-pick (eqb (op j k) i) a (_⊗_ (x j) (y k)))) ∙ total-mul R n a _)
-      ∙ total-mul R n a _
 
   -- ---- the single sum: for each j just one k has j·k = i
 
@@ -146,32 +143,13 @@ module _ {A : Type 0} (R : Ring A) {n : ℕ} (G : Group n) where
   pub conv-unit-left : (y : ℕ → A) (i : ℕ) → i < n → conv R G (unit R) y i ≡ y i
   unfolding conv unit
   conv-unit-left y i p =
-      total-one R n 0 (λ j. total R n (λ k. pick R (eqb (op j k) i) (_⊗_ (pick R (eqb j 0) 𝟏) (y k)))) first (λ j l ne. total-zero R n (λ k m. ap (pick R (eqb (op j k) i)) (ap (λ (a : A). _⊗_ a (y k)) (pick-no 𝟏 ne) ∙ zero-mul R (y k)) ∙ none (eqb (op j k) i)))
+      total-one R n 0 (λ j. total R n (λ k. pick R (eqb (op j k) i) (_⊗_ (pick R (eqb j 0) 𝟏) (y k)))) first (λ j l ne. total-zero R n (λ k m. ap (pick R (eqb (op j k) i)) (ap (λ (a : A). _⊗_ a (y k)) (pick-no 𝟏 ne) ∙ zero-mul R (y k)) ∙ pick-none (eqb (op j k) i)))
       ∙ total-one R n i (λ k. pick R (eqb (op 0 k) i) (_⊗_ (pick R (eqb 0 0) 𝟏) (y k))) p (λ k l ne. pick-no {i = op 0 k} {j = i} (_⊗_ (pick R (eqb 0 0) 𝟏) (y k)) (λ e. ne (sym (unit-left l) ∙ e)))
       ∙ pick-yes {i = op 0 i} {j = i} (_⊗_ (pick R (eqb 0 0) 𝟏) (y i)) (unit-left p)
       ∙ mul-comm 𝟏 (y i) ∙ mul-one (y i)
     where
       first : 0 < n
       first = omega arith
-
-      none : (t : Bool) → pick R t 𝟎 ≡ 𝟎
-      none true = refl
-      none false = refl
-
-  pub conv-unit-right : (x : ℕ → A) (i : ℕ) → i < n → conv R G x (unit R) i ≡ x i
-  unfolding conv unit
-  conv-unit-right x i p =
-      total-same R n (λ j l. total-one R n 0 (λ k. pick R (eqb (op j k) i) (_⊗_ (x j) (pick R (eqb k 0) 𝟏))) first (λ k m ne. ap (pick R (eqb (op j k) i)) (ap (_⊗_ (x j)) (pick-no 𝟏 ne) ∙ mul-zero (x j)) ∙ none (eqb (op j k) i)))
-      ∙ total-one R n i (λ j. pick R (eqb (op j 0) i) (_⊗_ (x j) 𝟏)) p (λ j l ne. pick-no {i = op j 0} {j = i} (_⊗_ (x j) 𝟏) (λ e. ne (sym (unit-right l) ∙ e)))
-      ∙ pick-yes {i = op i 0} {j = i} (_⊗_ (x i) 𝟏) (unit-right p)
-      ∙ mul-one (x i)
-    where
-      first : 0 < n
-      first = omega arith
-
-      none : (t : Bool) → pick R t 𝟎 ≡ 𝟎
-      none true = refl
-      none false = refl
 
   -- ---- commutative where the group is
 

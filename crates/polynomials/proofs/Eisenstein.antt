@@ -6,8 +6,8 @@ use native.Mathlib.Omega.{arith}
 use native.Mathlib.Nat.{add-zero, add-suc, add-mod-right, mod-eq-of-lt}
 use lib.Dec.{eqb}
 use lib.IntN.{pos}
-use Rattle.eisenstein.specs.Values.{ℤ[ω], value, 𝟘, _+ω_, _-ω_, _*ω_, Congruent}
-use Rattle.eisenstein.proofs.Solver.{ringω, _≐_, _⊞_, _⊟_, _⊠_, conω}
+use Rattle.eisenstein.specs.Values.{ℤ[ω], value, 𝟘, _+ω_, _*ω_, Congruent}
+use Rattle.eisenstein.proofs.Solver.{ringω, _≐_, _⊞_, _⊠_, conω}
 use Rattle.eisenstein.proofs.Laws.{+ω-assoc, +ω-comm, +ω-zero, *ω-assoc, *ω-comm, *ω-zero, *ω-+ω, congruent-refl, congruent-sym, congruent-trans}
 use Rattle.polynomials.specs.Polynomials.{Polynomial, sum, convolution, one}
 use Rattle.polynomials.proofs.Rings.{Ring, Congruence}

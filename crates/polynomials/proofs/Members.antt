@@ -1,19 +1,17 @@
 -- What membership in the sets of f, g and φ tells of a polynomial, and being reduced: each coefficient's norm is at most 1, and a product with such a polynomial is bounded by its count of units.
-use mathlib.Core.Path.{_≡_, refl, sym, _∙_, ap, ap₂, subst}
+use mathlib.Core.Path.{_≡_, refl, sym, _∙_, ap, subst}
 use mathlib.Core.Bool.{Bool, true, false, not, cond, _&&_, _||_}
 use mathlib.Core.List.{List, [], _∷_}
-use mathlib.Core.Logic.{_⊎_, inl, inr, ⊎-elim}
-use Prim.Native.Nat.{ℕ, zero, suc, _+_, _-_, _*_, _%_, _≤_, _<_}
+use mathlib.Core.Logic.{⊎-elim}
+use Prim.Native.Nat.{ℕ, zero, suc, _+_, _-_, _*_, _%_, _<_}
 use native.Mathlib.Omega.{arith}
 use native.Mathlib.Decide.{ℕ-discrete}
 use native.Mathlib.Nat.{one-mul, zero-mul, mod-lt}
 use borrow.Author.Tests.{not-false}
 use lib.Dec.{T, eqb, eqb→eq, leb, leb→le}
-use lib.IntN.{pos, negsuc}
 use mir.Facts.{and-yes, yes-and, or-yes}
-use Rattle.eisenstein.specs.Values.{ℤ[ω], value, 𝟘, units, norm, _*ω_, same}
+use Rattle.eisenstein.specs.Values.{ℤ[ω], 𝟘, units, norm, _*ω_, same, sameℤ}
 use Rattle.eisenstein.specs.Reduction.{modQ, mod2, bit}
-use Rattle.eisenstein.proofs.Laws.{*ω-zero, *ω-comm}
 use Rattle.eisenstein.proofs.Equality.{same-yes}
 use Rattle.eisenstein.proofs.Modulo2.{by-bits, mod2-by-bits}
 use Rattle.polynomials.specs.Polynomials.{Polynomial, all, count, nonzero, among, unitsOnly, unitsOfSumZero, reducedQ, reduced2, sum, convolution}
@@ -29,6 +27,13 @@ norm-small true true = tt
 norm-small true false = tt
 norm-small false true = tt
 norm-small false false = tt
+
+bits-unit : (u v : Bool) → T (not (nonzero (by-bits u v)) || among units (by-bits u v))
+unfolding nonzero among same sameℤ
+bits-unit true true = tt
+bits-unit true false = tt
+bits-unit false true = tt
+bits-unit false false = tt
 
 -- ---- a test of every index
 
@@ -113,6 +118,10 @@ mod2-within x = subst (Within 1) (sym (mod2-by-bits x)) (go (eqb (bit (x .a)) 1)
     go true false = small (by-bits true false) (norm-small true false)
     go false true = small (by-bits false true) (norm-small false true)
     go false false = small (by-bits false false) (norm-small false false)
+
+-- a remainder modulo 2 is zero or a unit
+pub mod2-unit : (x : ℤ[ω]) → T (not (nonzero (mod2 x)) || among units (mod2 x))
+mod2-unit x = subst (λ (y : ℤ[ω]). T (not (nonzero y) || among units y)) (sym (mod2-by-bits x)) (bits-unit (eqb (bit (x .a)) 1) (eqb (bit (x .b)) 1))
 
 pub reduced2-within : (N : ℕ) (x : Polynomial) → T (reduced2 N x) → (i : ℕ) → i < N → Within 1 (x i)
 reduced2-within N x h i l = subst (Within 1) (reduced2-at N x h i l) (mod2-within (x i))

@@ -1,7 +1,7 @@
 -- The promises of convolution, at the cyclic group.
-use mathlib.Core.Path.{_≡_, refl, sym, _∙_, ap, ap₂, subst}
+use mathlib.Core.Path.{refl, sym, _∙_, ap₂, subst}
 use Rattle.eisenstein.specs.Values.{ℤ[ω], _+ω_, Congruent}
-use Rattle.polynomials.specs.Polynomials.{Polynomial, convolution}
+use Rattle.polynomials.specs.Polynomials.{convolution}
 use Rattle.polynomials.specs.Promises.{Convolution-commutes, Convolution-associates, Convolution-adds, Convolution-one, Convolution-single, Convolution-congruent, Convolution-norm}
 use Rattle.polynomials.proofs.Convolutions.{conv-same, conv-congruent, conv-add-right, conv-single, conv-assoc, conv-unit-left, conv-comm}
 use Rattle.polynomials.proofs.Cyclic.{cyclic, cyclic-comm}

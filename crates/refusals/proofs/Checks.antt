@@ -54,10 +54,21 @@ holds-passed n t cs a h = passed n cs a (negated t h)
 pub fails-refused : {A : Type 0} (n : ℕ) (t : Bool) (cs : List Check) (a : A) → t ≡ false → outcome (n if not t ∷ cs) a ≡ refused n
 fails-refused n t cs a e = refused-by n cs a (ap not e)
 
+-- such a test t, which a call returned as b, after a branch on not b
+
+pub holds : {b t : Bool} → b ≡ t → not b ≡ false → T t
+holds e h = subst T (sym (not-false _ h) ∙ e) tt
+
+pub call-passed : {A : Type 0} (n : ℕ) (cs : List Check) (a : A) {b t : Bool} → b ≡ t → not b ≡ false → outcome (n if not t ∷ cs) a ≡ outcome cs a
+call-passed n cs a e h = passed n cs a (ap not (sym e) ∙ h)
+
+pub call-refused : {A : Type 0} (n : ℕ) (cs : List Check) (a : A) {b t : Bool} → b ≡ t → not b ≡ true → outcome (n if not t ∷ cs) a ≡ refused n
+call-refused n cs a e h = refused-by n cs a (ap not (sym e) ∙ h)
+
 pub done-holds : {A : Type 0} (n : ℕ) (t : Bool) (cs : List Check) (a b : A) → outcome (n if not t ∷ cs) a ≡ done b → T t × (outcome cs a ≡ done b)
 done-holds n t cs a b e =
     let p = done-passed n (not t) cs a b e in
-    (subst T (sym (not-false t (p .0))) tt, p .1)
+    (holds {t = t} refl (p .0), p .1)
 
 -- ---- checks one after another
 

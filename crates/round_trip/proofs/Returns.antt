@@ -1,5 +1,5 @@
 -- The round trip gives the message, and an outcome is known from the number that its call returned.
-use mathlib.Core.Path.{_≡_, sym, _∙_, ap}
+use mathlib.Core.Path.{_≡_, _∙_, ap}
 use mathlib.Core.List.{List, _++_}
 use Prim.Native.Nat.{ℕ, _*_}
 use lib.IntN.{ℤ}

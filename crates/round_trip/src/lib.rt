@@ -1,4 +1,5 @@
 // Demand 3 of the calls: the library's own key check, sealing and opening, one after another on lent arrays.
+// It uses only the public contracts of `etru`, and adds nothing to the library.
 // Any key that is accepted, any ephemeral of its set and any message come back as exactly that message, with no refusal.
 ghost use mathlib.Core.Path.{_≡_};
 ghost use mathlib.Core.List.{List};

@@ -14,10 +14,10 @@ use Rattle.polynomials.specs.Polynomials.{coefficient, array, sum, convolution,
 use Rattle.packing.specs.Messages.{bitOf, pair, packed, spareBitSet, messageBit, byte, listed, unpacked}
 use Rattle.etru.specs.Scheme.{publicKey, sealed, opened}
 use Rattle.etru.specs.Calls.{keyChecks, keyCheck, sealingChecks, sealing, openingChecks, opening}
-use Rattle.files.specs.Files.{arraysOf, numberCount, fileLength, bytes16, number16, bits16, signed16, unsignedAt, signedAt, headOf, numbersFrom, headBytes, bytesOf, fileOf}
+use Rattle.files.specs.Files.{arraysOf, fileNumbers, fileBytes, bytes16, number16, bits16, signed16, unsignedAt, signedAt, headOf, numbersFrom, arrayAt, headBytes, bytesOf, fileOf}
 use Rattle.files.specs.Calls.{marked, versionOne, headChecks, setChecks, contentChecks, readingChecks, reading, writingChecks, writing}
 use Rattle.opening.specs.Lines.{decimal, hexDigit, hex}
-use Rattle.opening.specs.Program.{firstLength, fileChecks, arrayOf, sameSet, inverseChecks, pairChecks, messageOf, openingPair, openingFiles, openingLine}
+use Rattle.opening.specs.Program.{firstLength, fileChecks, sameSet, inverseChecks, pairChecks, messageOf, openingPair, openingFiles, openingLine}
 use Rattle.worked_examples.specs.Rows.{Rows-hold}
 
 -- a remainder, computed by `modQ`
@@ -27,7 +27,7 @@ computed q x r h t =
     (modQ-is-remainder q x (λ e. T-not (same q 𝟘) (subst T (sym (same-true e)) tt) h))
 
 pub rows-hold : Rows-hold
-unfolding modQ mod2 bit cell corner better best _+ω_ _-ω_ _*ω_ norm same sameℤ beyond outside even bound parameterChecks parameters outcome coefficient array sum convolution one all count nonzero among unitsOnly unitsOfSumZero reducedQ reduced2 congruentQ congruent2 bitOf pair packed spareBitSet messageBit byte listed unpacked publicKey sealed opened keyChecks keyCheck sealingChecks sealing openingChecks opening arraysOf numberCount fileLength bytes16 number16 bits16 signed16 unsignedAt signedAt headOf numbersFrom headBytes bytesOf fileOf marked versionOne headChecks setChecks contentChecks readingChecks reading writingChecks writing decimal hexDigit hex firstLength fileChecks arrayOf sameSet inverseChecks pairChecks messageOf openingPair openingFiles openingLine
+unfolding modQ mod2 bit cell corner better best _+ω_ _-ω_ _*ω_ norm same sameℤ beyond outside even bound parameterChecks parameters outcome coefficient array sum convolution one all count nonzero among unitsOnly unitsOfSumZero reducedQ reduced2 congruentQ congruent2 bitOf pair packed spareBitSet messageBit byte listed unpacked publicKey sealed opened keyChecks keyCheck sealingChecks sealing openingChecks opening arraysOf fileNumbers fileBytes bytes16 number16 bits16 signed16 unsignedAt signedAt headOf numbersFrom arrayAt headBytes bytesOf fileOf marked versionOne headChecks setChecks contentChecks readingChecks reading writingChecks writing decimal hexDigit hex firstLength fileChecks sameSet inverseChecks pairChecks messageOf openingPair openingFiles openingLine
 rows-hold = (
   computed _ _ _ tt tt,
   (

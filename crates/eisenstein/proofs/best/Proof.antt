@@ -1,6 +1,6 @@
 -- `best` meets its contract.
 use mathlib.Core.Path.{_≡_, sym, _∙_, ap₂}
-use Prim.Native.Nat.{ℕ, _≤_, _^_}
+use Prim.Native.Nat.{_≤_, _^_}
 use borrow.Author.Needs.{needs}
 use lib.Dec.{lit<}
 use lib.IntN.{ℤ, natAbs}
@@ -8,7 +8,7 @@ use mir.Syntax.{w64}
 use mir.Val.{toZ, ofZ}
 use mir.Facts.{toZ-ofZ}
 use Rattle.integers.proofs.Machine.{sfits-within}
-use Rattle.eisenstein.specs.Values.{ℤ[ω], value}
+use Rattle.eisenstein.specs.Values.{value}
 use Rattle.eisenstein.specs.Reduction.{better, best}
 use Rattle.eisenstein.proofs.TieRule.{best-first, best-second}
 use Rattle.eisenstein.proofs.best.Statement.{statement}

@@ -1,7 +1,7 @@
 -- `best_corner` meets its contract: no step overflows, and each corner is what is meant.
 use mathlib.Core.Path.{_≡_, sym, _∙_, ap₂, subst}
 use mathlib.Core.List.{List, [], _∷_}
-use Prim.Native.Nat.{ℕ, _≤_, _^_}
+use Prim.Native.Nat.{_≤_, _^_}
 use lib.IntN.{natAbs, _+ℤ_, _-ℤ_}
 use mir.Syntax.{w64}
 use Rattle.integers.proofs.Ring.{Expr, var, _⊕_, _⊝_}

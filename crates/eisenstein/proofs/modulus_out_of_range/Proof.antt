@@ -1,11 +1,11 @@
 -- `modulus_out_of_range` meets its contract.
-use mathlib.Core.Path.{_∙_, ap, ap₂}
+use mathlib.Core.Path.{_∙_, ap}
 use lib.Dec.{lit≤}
 use lib.Signed.{ltZ-yes}
 use mir.Syntax.{w64}
-use Rattle.integers.proofs.Machine.{cast-fits, cast-read}
-use Rattle.eisenstein.specs.Values.{value}
+use Rattle.integers.proofs.Machine.{cast-fits}
 use Rattle.eisenstein.specs.Calls.{beyond}
+use Rattle.eisenstein.proofs.Pairs.{pair-cast}
 use Rattle.eisenstein.proofs.modulus_out_of_range.Statement.{statement}
 use Rattle.eisenstein.proofs.modulus_out_of_range.Tie as tie
 
@@ -16,4 +16,4 @@ modulus-out-of-range-spec =
     (λ c. cast-fits tt (c .fits .c))
     (λ c. cast-fits tt (c .fits .d))
     (λ c κs. (ltZ-yes tt, lit≤ tt))
-    (λ c. c .beyond .ensures ∙ ap (beyond 4095) (ap₂ value (cast-read w64 tt (c .before .fits .c)) (cast-read w64 tt (c .before .fits .d)))))
+    (λ c. c .beyond .ensures ∙ ap (beyond 4095) (pair-cast w64 tt (c .before .fits .c) (c .before .fits .d))))

@@ -1,13 +1,13 @@
 -- `norm` meets its contract: parts of 16 bits have a norm of 32.
 use mathlib.Core.Path.{_≡_, sym, _∙_, ap, ap₂, subst}
-use Prim.Native.Nat.{ℕ, _≤_, _^_}
+use Prim.Native.Nat.{_≤_, _^_}
 use native.Mathlib.Omega.{arith}
 use native.Mathlib.Nat.{le-trans}
 use borrow.Author.Needs.{needs}
 use lib.Dec.{T, lit≤}
 use lib.IntN.{ℤ, pos, natAbs}
 use lib.Signed.{nonNeg, natAbs-le}
-use mir.Syntax.{w16, w32, w64}
+use mir.Syntax.{w64}
 use mir.Val.{toZ, ofZ}
 use mir.Facts.{toZ-ofZ}
 use Rattle.integers.proofs.Machine.{cast-fits, cast-read}

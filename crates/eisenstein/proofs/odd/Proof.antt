@@ -1,7 +1,7 @@
 -- `odd` meets its contract.
 use mathlib.Core.Path.{refl, _∙_, ap}
 use mathlib.Core.Bool.{not}
-use lib.Dec.{eqb, lit<}
+use lib.Dec.{eqb}
 use lib.IntN.{ℤ, pos}
 use lib.Signed.{remZ, ltZ-yes}
 use mir.Syntax.{w64}

@@ -1,25 +1,20 @@
 -- `reduce_2` meets its contract.
-use mathlib.Core.Path.{_≡_, sym, _∙_, ap, ap₂}
+use mathlib.Core.Path.{_≡_, sym, _∙_, ap}
 use Prim.Native.Nat.{_^_}
 use lib.Dec.{lit≤}
 use lib.Signed.{ltZ-yes}
-use mir.Syntax.{w64}
-use mir.Val.{toZ, ofZ}
-use mir.Facts.{toZ-ofZ}
 use Rattle.refusals.specs.Outcomes.{done}
 use Rattle.refusals.proofs.Checks.{refused-by, passed, none-left}
-use Rattle.eisenstein.specs.Values.{ℤ[ω], value}
+use Rattle.eisenstein.specs.Values.{value}
 use Rattle.eisenstein.specs.Reduction.{mod2}
 use Rattle.eisenstein.specs.Calls.{beyond, reduce2}
+use Rattle.eisenstein.proofs.Pairs.{pair-read}
 use Rattle.eisenstein.proofs.reduce_2.Statement.{statement}
 use Rattle.eisenstein.proofs.reduce_2.Tie as tie
 
-x-read : (c : tie.Start) → value (toZ w64 (ofZ w64 (c .args .a))) (toZ w64 (ofZ w64 (c .args .b))) ≡ value (c .args .a) (c .args .b)
-x-read c = ap₂ value (toZ-ofZ (c .fits .a)) (toZ-ofZ (c .fits .b))
-
 -- the test, of the value itself
 tested : (c : tie.After-beyond) → beyond (2 ^ 40) (value (c .before .args .a) (c .before .args .b)) ≡ c .beyond .result
-tested c = sym (ap (beyond (2 ^ 40)) (x-read (c .before))) ∙ sym (c .beyond .ensures)
+tested c = sym (c .beyond .ensures ∙ ap (beyond (2 ^ 40)) (pair-read (c .before .fits .a) (c .before .fits .b)))
 
 pub reduce-2-spec : {M : Type 1} → statement M
 unfolding reduce2
@@ -31,4 +26,4 @@ reduce-2-spec =
     (λ c κs. tt)
     (λ c.
     let s = c .before .before .before in
-    ap done (c .remainder-2 .ensures ∙ ap mod2 (x-read s)) ∙ sym (passed 22 _ _ (tested (c .before .before) ∙ c .before .if1 .left) ∙ none-left _)))
+    ap done (c .remainder-2 .ensures ∙ ap mod2 (pair-read (s .fits .a) (s .fits .b))) ∙ sym (passed 22 _ _ (tested (c .before .before) ∙ c .before .if1 .left) ∙ none-left _)))

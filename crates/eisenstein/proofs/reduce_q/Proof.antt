@@ -1,15 +1,15 @@
 -- `reduce_q` meets its contract: each test is the definition's, and the remainder fits 32 bits.
 use mathlib.Core.Path.{_≡_, sym, _∙_, ap, ap₂, subst}
-use mathlib.Core.Bool.{true, false}
+use mathlib.Core.Bool.{false}
 use mathlib.Core.Logic.{_≢_}
-use Prim.Native.Nat.{ℕ, _≤_, _^_}
+use Prim.Native.Nat.{_≤_, _^_}
 use lib.Dec.{T, lit<, lit≤}
-use lib.IntN.{ℤ, pos, natAbs}
+use lib.IntN.{ℤ, natAbs}
 use lib.Signed.{ltZ-yes}
 use mir.Syntax.{w32, w64}
 use mir.Val.{toZ, ofZ, SFits}
 use mir.Facts.{toZ-ofZ}
-use Rattle.integers.proofs.Machine.{cast-fits, cast-read, sfits-within}
+use Rattle.integers.proofs.Machine.{cast-fits, sfits-within}
 use Rattle.refusals.specs.Outcomes.{done}
 use Rattle.refusals.proofs.Checks.{refused-by, passed, none-left}
 use Rattle.eisenstein.specs.Values.{ℤ[ω], value, 𝟘, same}
@@ -17,6 +17,7 @@ use Rattle.eisenstein.specs.Reduction.{modQ}
 use Rattle.eisenstein.specs.Calls.{beyond, reduceQ}
 use Rattle.eisenstein.proofs.Equality.{same-true}
 use Rattle.eisenstein.proofs.Limits.{within}
+use Rattle.eisenstein.proofs.Pairs.{pair-read, pair-cast}
 use Rattle.eisenstein.proofs.Remainders.{modQ-is-remainder, remainder-size}
 use Rattle.eisenstein.proofs.reduce_q.Statement.{statement}
 use Rattle.eisenstein.proofs.reduce_q.Tie as tie
@@ -29,14 +30,14 @@ x c = value (c .args .a) (c .args .b)
 
 -- modulus and value as a callee is handed them
 q-read : (c : tie.Start) → value (toZ w64 (ofZ w64 (toZ w32 (ofZ w32 (c .args .c))))) (toZ w64 (ofZ w64 (toZ w32 (ofZ w32 (c .args .d))))) ≡ q c
-q-read c = ap₂ value (cast-read w64 tt (c .fits .c)) (cast-read w64 tt (c .fits .d))
+q-read c = pair-cast w64 tt (c .fits .c) (c .fits .d)
 
 x-read : (c : tie.Start) → value (toZ w64 (ofZ w64 (c .args .a))) (toZ w64 (ofZ w64 (c .args .b))) ≡ x c
-x-read c = ap₂ value (toZ-ofZ (c .fits .a)) (toZ-ofZ (c .fits .b))
+x-read c = pair-read (c .fits .a) (c .fits .b)
 
 -- the three tests
 q-tested : (c : tie.After-modulus-out-of-range) → beyond 4095 (q (c .before)) ≡ c .modulus-out-of-range .result
-q-tested c = sym (c .modulus-out-of-range .ensures ∙ ap₂ (λ (u v : ℤ). beyond 4095 (value u v)) (toZ-ofZ (c .before .fits .c)) (toZ-ofZ (c .before .fits .d)))
+q-tested c = sym (c .modulus-out-of-range .ensures ∙ ap (beyond 4095) (pair-read (c .before .fits .c) (c .before .fits .d)))
 
 zero-tested : (c : tie.After-is-zero) → same (q (c .before .before .before)) 𝟘 ≡ c .is-zero .result
 zero-tested c = sym (ap (λ (y : ℤ[ω]). same y 𝟘) (q-read (c .before .before .before))) ∙ sym (c .is-zero .ensures)

@@ -7,11 +7,12 @@ use lib.Dec.{lit<}
 use mir.Syntax.{w64}
 use mir.Val.{toZ, ofZ}
 use mir.Facts.{toZ-ofZ}
-use Rattle.integers.proofs.Ring.{Expr, var}
+use Rattle.integers.proofs.Ring.{var}
 use Rattle.integers.proofs.Machine.{Leaf, given, exact, size-read, sfits-within}
 use Rattle.eisenstein.specs.Values.{ℤ[ω], value}
 use Rattle.eisenstein.specs.Reduction.{corner, best}
 use Rattle.eisenstein.proofs.Corners.{less10, less01, less11, best-corner-is}
+use Rattle.eisenstein.proofs.Pairs.{pair-read}
 use Rattle.eisenstein.proofs.remainder.Statement.{statement}
 use Rattle.eisenstein.proofs.remainder.Tie as tie
 
@@ -41,7 +42,7 @@ first-read : (c : tie.After-first-corner) → value (toZ w64 (ofZ w64 (c .first-
 first-read c =
     let s = c .before .before in
     let f = c .first-corner in
-    ap₂ value (toZ-ofZ (sfits-within (f .result .a) (f .ensures .1) (lit< tt))) (toZ-ofZ (sfits-within (f .result .b) (f .ensures .2) (lit< tt)))
+    pair-read (sfits-within (f .result .a) (f .ensures .1) (lit< tt)) (sfits-within (f .result .b) (f .ensures .2) (lit< tt))
     ∙ f .ensures .0
     ∙ ap₂ (λ (q x : ℤ[ω]). corner q x 0 0) (q-read s) (x-read s)
 

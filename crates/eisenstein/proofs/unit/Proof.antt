@@ -1,15 +1,14 @@
 -- `unit` meets its contract: one test over the six entries of the table.
-use mathlib.Core.Path.{_≡_}
 use mathlib.Core.Bool.{Bool}
-use mathlib.Core.List.{List, [], _∷_}
-use Prim.Native.Nat.{ℕ, _<_, _%_}
+use mathlib.Core.List.{[], _∷_}
+use Prim.Native.Nat.{ℕ, _%_}
 use native.Mathlib.Omega.{arith}
 use borrow.Author.Needs.{needs}
 use lib.Dec.{T}
 use lib.IntN.{ℤ, pos, negsuc}
 use lib.ListN.{getD}
 use Rattle.integers.proofs.Tests.{every, every-at}
-use Rattle.eisenstein.specs.Values.{ℤ[ω], value, unit, same, sameℤ}
+use Rattle.eisenstein.specs.Values.{value, unit, same, sameℤ}
 use Rattle.eisenstein.specs.declared.Pair.{Pair}
 use Rattle.eisenstein.proofs.Equality.{same-yes}
 use Rattle.eisenstein.proofs.unit.Statement.{statement}

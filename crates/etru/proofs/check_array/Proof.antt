@@ -1,26 +1,19 @@
 -- `check_array` meets its contract: the parameter set's checks, then those of the array.
-use mathlib.Core.Path.{_≡_, sym, _∙_, ap, ap₂}
+use mathlib.Core.Path.{_≡_, sym, _∙_, ap}
 use mathlib.Core.List.{List}
 use borrow.Author.Needs.{needs}
-use mir.Syntax.{w32}
-use mir.Val.{toZ, ofZ}
-use mir.Facts.{toZ-ofZ}
 use Rattle.refusals.specs.Outcomes.{Check, outcome}
 use Rattle.refusals.specs.Numbers.{answered}
 use Rattle.refusals.proofs.Checks.{passed-all, refused-first}
-use Rattle.eisenstein.specs.Values.{ℤ[ω], value}
-use Rattle.eisenstein.specs.Calls.{beyond}
+use Rattle.eisenstein.specs.Values.{ℤ[ω]}
 use Rattle.parameters.specs.Sets.{ParameterSet, setOf, parameterChecks}
 use Rattle.etru.specs.Calls.{arrayChecks, arrayCheck}
-use Rattle.etru.proofs.AcceptedParameters.{Accepted, accepted-parameters, modulus-nonzero}
+use Rattle.etru.proofs.AcceptedParameters.{Accepted, accepted-parameters, modulus-read, accepted-requires}
 use Rattle.etru.proofs.check_array.Statement.{statement}
 use Rattle.etru.proofs.check_array.Tie as tie
 
 abbrev P : tie.Start → ParameterSet
 P s = setOf (s .args .p)
-
-q-read : (s : tie.Start) → value (toZ w32 (ofZ w32 (s .args .p .c))) (toZ w32 (ofZ w32 (s .args .p .d))) ≡ P s .q
-q-read s = ap₂ value (toZ-ofZ (search needs)) (toZ-ofZ (search needs))
 
 abbrev with-q : tie.Start → ℤ[ω] → ParameterSet
 with-q s q = record { N = s .args .p .n; q = q; s = s .args .p .s; t = s .args .p .t }
@@ -46,14 +39,13 @@ check-array-spec =
     (λ c. search needs)
     (λ c κs.
     let s = c .before .before .before .before .before in
-    let a = accepted c in
-    (a .N-small, ap (beyond 4095) (q-read s) ∙ a .q-small, (λ e. modulus-nonzero (P s) a (sym (q-read s) ∙ e))))
+    accepted-requires (s .args .p) (search needs) (search needs) (accepted c))
     (λ c. search needs)
     (λ c.
     let r = c .before in
     let s = r .before .before .before .before .before in
     c .array-refusal .ensures
-    ∙ ap (λ (q : ℤ[ω]). outcome (checks s q) (tt {0})) (q-read s)
+    ∙ ap (λ (q : ℤ[ω]). outcome (checks s q) (tt {0})) (modulus-read (s .args .p) (search needs) (search needs))
     ∙ sym (passed-all (parameterChecks (P s)) (checks s (P s .q)) tt (accepted r .checks)))
     (λ c.
     let r = c .before .before .before in

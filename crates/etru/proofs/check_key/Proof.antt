@@ -1,31 +1,24 @@
 -- `check_key` meets its contract: the parameter set's checks, then those of the call.
-use mathlib.Core.Path.{_≡_, sym, _∙_, ap, ap₂}
+use mathlib.Core.Path.{_≡_, sym, _∙_, ap}
 use mathlib.Core.List.{List}
 use borrow.Author.Needs.{needs}
 use denote.Ref.{now}
 use lib.IntN.{ℤ}
 use lib.ListN.{length}
-use mir.Syntax.{w32}
-use mir.Val.{toZ, ofZ}
-use mir.Facts.{toZ-ofZ}
 use Rattle.refusals.specs.Outcomes.{Check, Outcome, outcome, number, written}
 use Rattle.refusals.specs.Numbers.{answered}
 use Rattle.refusals.proofs.Checks.{passed-all, refused-first}
-use Rattle.eisenstein.specs.Values.{ℤ[ω], value}
-use Rattle.eisenstein.specs.Calls.{beyond}
+use Rattle.eisenstein.specs.Values.{ℤ[ω]}
 use Rattle.parameters.specs.Sets.{ParameterSet, setOf, parameterChecks}
 use Rattle.polynomials.specs.Polynomials.{coefficient, array}
 use Rattle.etru.specs.Scheme.{publicKey}
 use Rattle.etru.specs.Calls.{keyChecks, keyCheck}
-use Rattle.etru.proofs.AcceptedParameters.{Accepted, accepted-parameters, modulus-nonzero}
+use Rattle.etru.proofs.AcceptedParameters.{Accepted, accepted-parameters, modulus-read, accepted-requires}
 use Rattle.etru.proofs.check_key.Statement.{statement}
 use Rattle.etru.proofs.check_key.Tie as tie
 
 abbrev P : tie.Start → ParameterSet
 P s = setOf (s .args .p)
-
-q-read : (s : tie.Start) → value (toZ w32 (ofZ w32 (s .args .p .c))) (toZ w32 (ofZ w32 (s .args .p .d))) ≡ P s .q
-q-read s = ap₂ value (toZ-ofZ (search needs)) (toZ-ofZ (search needs))
 
 abbrev checks : tie.Start → ℤ[ω] → List Check
 checks s q = keyChecks (record { N = s .args .p .n; q = q; s = s .args .p .s; t = s .args .p .t }) (s .args .f .now) (s .args .f2 .now) (s .args .fq .now) (s .args .g .now) (length (s .args .h .now))
@@ -51,16 +44,15 @@ check-key-spec =
     (λ c. search needs)
     (λ c κs.
     let s = c .before .before .before .before .before .before in
-    let a = accepted (c .before) in
-    (a .N-small, ap (beyond 4095) (q-read s) ∙ a .q-small, (λ e. modulus-nonzero (P s) a (sym (q-read s) ∙ e))))
+    accepted-requires (s .args .p) (search needs) (search needs) (accepted (c .before)))
     (λ c. search needs)
     (λ c. search needs)
     (λ c.
     let r = c .before .before .before in
     let s = r .before .before .before .before .before in
     let o = passed-all (parameterChecks (P s)) (checks s (P s .q)) (value-of s (P s .q)) (accepted r .checks) in (
-      c .before .check-key .ensures .0 ∙ ap (λ (q : ℤ[ω]). number (outcome (checks s q) (value-of s q))) (q-read s) ∙ sym (ap number o),
-      c .before .check-key .ensures .1 ∙ ap (λ (q : ℤ[ω]). written (outcome (checks s q) (value-of s q)) (now (s .args .h))) (q-read s) ∙ sym (ap (λ (x : Outcome (List ℤ)). written x (now (s .args .h))) o),
+      c .before .check-key .ensures .0 ∙ ap (λ (q : ℤ[ω]). number (outcome (checks s q) (value-of s q))) (modulus-read (s .args .p) (search needs) (search needs)) ∙ sym (ap number o),
+      c .before .check-key .ensures .1 ∙ ap (λ (q : ℤ[ω]). written (outcome (checks s q) (value-of s q)) (now (s .args .h))) (modulus-read (s .args .p) (search needs) (search needs)) ∙ sym (ap (λ (x : Outcome (List ℤ)). written x (now (s .args .h))) o),
     ))
     (λ c.
     let r = c .before .before .before in

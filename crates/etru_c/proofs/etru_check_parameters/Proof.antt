@@ -1,10 +1,9 @@
 -- `etru_check_parameters` meets its contract.
-use mathlib.Core.Path.{_∙_, ap, ap₂}
-use lib.IntN.{ℤ}
-use mir.Facts.{toZ-ofZ}
-use Rattle.refusals.specs.Outcomes.{number, outcome}
+use mathlib.Core.Path.{_∙_, ap}
+use Rattle.refusals.specs.Outcomes.{number}
 use Rattle.refusals.proofs.Checks.{same-number}
 use Rattle.parameters.specs.Sets.{set, parameterChecks, parameters}
+use Rattle.eisenstein.proofs.Pairs.{pair-read}
 use Rattle.etru_c.proofs.etru_check_parameters.Statement.{statement}
 use Rattle.etru_c.proofs.etru_check_parameters.Tie as tie
 
@@ -18,6 +17,5 @@ etru-check-parameters-spec =
     (λ c.
     let s = c .before .before in
     c .number .ensures
-    ∙ ap number (c .before .check .ensures)
-    ∙ ap₂ (λ (u v : ℤ). number (outcome (parameterChecks (set (s .args .n) u v (s .args .s) (s .args .t))) tt)) (toZ-ofZ (s .fits .c)) (toZ-ofZ (s .fits .d))
+    ∙ ap number (rw (pair-read (s .fits .c) (s .fits .d)) at (c .before .check .ensures))
     ∙ same-number (parameterChecks (set (s .args .n) (s .args .c) (s .args .d) (s .args .s) (s .args .t))) tt _))

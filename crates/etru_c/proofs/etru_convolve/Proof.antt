@@ -1,12 +1,7 @@
 -- `etru_convolve` meets its contract.
-use mathlib.Core.Path.{_∙_, ap₂}
+use mathlib.Core.Path.{_∙_}
 use borrow.Author.Needs.{needs}
-use lib.IntN.{ℤ}
-use lib.ListN.{length}
-use mir.Facts.{toZ-ofZ}
-use Rattle.refusals.specs.Outcomes.{number, written}
-use Rattle.parameters.specs.Sets.{set}
-use Rattle.etru.specs.Calls.{convolving}
+use Rattle.eisenstein.proofs.Pairs.{pair-read}
 use Rattle.etru_c.proofs.etru_convolve.Statement.{statement}
 use Rattle.etru_c.proofs.etru_convolve.Tie as tie
 
@@ -19,7 +14,5 @@ etru-convolve-spec =
     (λ c. search needs)
     (λ c.
     let s = c .before .before .before .before in
-    let e = c .before .before .convolve .ensures in (
-      c .number .ensures ∙ e .0 ∙ ap₂ (λ (u v : ℤ). number (convolving (set (s .args .n) u v (s .args .s) (s .args .t)) (s .args .x .now) (s .args .y .now) (length (s .args .out .now)))) (toZ-ofZ (s .fits .c)) (toZ-ofZ (s .fits .d)),
-      e .1 ∙ ap₂ (λ (u v : ℤ). written (convolving (set (s .args .n) u v (s .args .s) (s .args .t)) (s .args .x .now) (s .args .y .now) (length (s .args .out .now))) (s .args .out .now)) (toZ-ofZ (s .fits .c)) (toZ-ofZ (s .fits .d)),
-    )))
+    let e = rw (pair-read (s .fits .c) (s .fits .d)) at (c .before .before .convolve .ensures) in
+    (c .number .ensures ∙ e .0, e .1)))

@@ -1,12 +1,7 @@
 -- `etru_seal` meets its contract.
-use mathlib.Core.Path.{_∙_, ap₂}
+use mathlib.Core.Path.{_∙_}
 use borrow.Author.Needs.{needs}
-use lib.IntN.{ℤ}
-use lib.ListN.{length}
-use mir.Facts.{toZ-ofZ}
-use Rattle.refusals.specs.Outcomes.{number, written}
-use Rattle.parameters.specs.Sets.{set}
-use Rattle.etru.specs.Calls.{sealing}
+use Rattle.eisenstein.proofs.Pairs.{pair-read}
 use Rattle.etru_c.proofs.etru_seal.Statement.{statement}
 use Rattle.etru_c.proofs.etru_seal.Tie as tie
 
@@ -19,7 +14,5 @@ etru-seal-spec =
     (λ c. search needs)
     (λ c.
     let s = c .before .before .before .before .before in
-    let e = c .before .before .seal .ensures in (
-      c .number .ensures ∙ e .0 ∙ ap₂ (λ (u v : ℤ). number (sealing (set (s .args .n) u v (s .args .s) (s .args .t)) (s .args .h .now) (s .args .phi .now) (s .args .message .now) (length (s .args .e .now)))) (toZ-ofZ (s .fits .c)) (toZ-ofZ (s .fits .d)),
-      e .1 ∙ ap₂ (λ (u v : ℤ). written (sealing (set (s .args .n) u v (s .args .s) (s .args .t)) (s .args .h .now) (s .args .phi .now) (s .args .message .now) (length (s .args .e .now))) (s .args .e .now)) (toZ-ofZ (s .fits .c)) (toZ-ofZ (s .fits .d)),
-    )))
+    let e = rw (pair-read (s .fits .c) (s .fits .d)) at (c .before .before .seal .ensures) in
+    (c .number .ensures ∙ e .0, e .1)))

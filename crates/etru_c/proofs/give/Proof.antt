@@ -1,14 +1,14 @@
 -- `give` meets its contract.
-use mathlib.Core.Path.{_≡_, sym, _∙_, ap, ap₂}
+use mathlib.Core.Path.{_≡_, sym, _∙_, ap}
 use borrow.Author.Needs.{needs}
 use denote.Ref.{now}
 use mir.Syntax.{w32}
 use mir.Val.{toZ, ofZ}
-use mir.Facts.{toZ-ofZ}
 use Rattle.refusals.specs.Outcomes.{number, written}
 use Rattle.eisenstein.specs.Values.{value}
 use Rattle.eisenstein.specs.Calls.{answered}
 use Rattle.eisenstein.specs.declared.Reduced.{Reduced}
+use Rattle.eisenstein.proofs.Pairs.{pair-read}
 use Rattle.etru_c.proofs.give.Statement.{statement}
 use Rattle.etru_c.proofs.give.Tie as tie
 
@@ -23,7 +23,7 @@ give-spec =
     let s = c .before .before .before .before .before in
     let r = c .before .before .before .answer .given .0 .0 in
     let e = c .before .before .before .answer .given .1 in
-    let back : value (toZ w32 (ofZ w32 (r .a))) (toZ w32 (ofZ w32 (r .b))) ≡ value (r .a) (r .b) = ap₂ value (toZ-ofZ (search needs)) (toZ-ofZ (search needs)) in (
+    let back : value (toZ w32 (ofZ w32 (r .a))) (toZ w32 (ofZ w32 (r .b))) ≡ value (r .a) (r .b) = pair-read (search needs) (search needs) in (
       sym (ap (λ (a : Reduced). number (answered a)) e),
       back ∙ sym (ap (λ (a : Reduced). written (answered a) (value (now (s .args .ra)) (now (s .args .rb)))) e),
     ))

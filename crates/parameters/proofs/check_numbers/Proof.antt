@@ -1,15 +1,16 @@
 -- `check_numbers` meets its contract: each test is the definition's, in its order.
-use mathlib.Core.Path.{_≡_, refl, sym, _∙_, ap, ap₂, subst}
-use mathlib.Core.Bool.{Bool, true, false, not, _&&_, _||_}
-use Prim.Native.Nat.{ℕ, _≤_, _%_}
+use mathlib.Core.Path.{_≡_, sym, _∙_, ap₂}
+use mathlib.Core.Bool.{not, _&&_, _||_}
+use Prim.Native.Nat.{_≤_, _%_}
 use native.Mathlib.Omega.{arith}
-use lib.Dec.{T, ltb, eqb}
+use lib.Dec.{ltb, eqb}
 use lib.IntN.{ℤ}
 use mir.Syntax.{w32}
 use mir.Val.{toZ, ofZ}
 use mir.Facts.{toZ-ofZ}
+use Rattle.integers.proofs.Tests.{neither-first}
 use Rattle.refusals.proofs.Checks.{refused-by, passed, none-left}
-use Rattle.eisenstein.specs.Values.{ℤ[ω], value, norm}
+use Rattle.eisenstein.specs.Values.{value, norm}
 use Rattle.eisenstein.specs.Calls.{beyond}
 use Rattle.parameters.specs.Sets.{ParameterSet, set, outside, even, bound, parameterChecks}
 use Rattle.parameters.proofs.Ranges.{in-range}
@@ -45,15 +46,11 @@ test-6 c =
     let s = c .before .before .before .before .before .before .before .before .before .before .before in
     sym (c .not-below-norm .ensures ∙ q-read (λ u v. not (ltb (bound (P s)) (norm (value u v)))) s)
 
-or-false : (p r : Bool) → (p || r) ≡ false → p ≡ false
-or-false true r e = e
-or-false false r e = refl
-
 s-in-range : (c : tie.Else4) → c .before .before .before .before .before .before .before .before .args .s ≤ 1024
 s-in-range c =
     let s = c .before .before .before .before .before .before .before .before in
     let n : s .args .n ≤ 1024 = in-range 3 1024 (s .args .n) (test-1 (c .before .before .before .before .before .before .before) ∙ c .before .before .before .before .before .before .if1 .left) in
-    let k = or-false (outside 3 (s .args .n) (s .args .s)) (not (eqb (s .args .s % 3) 0)) (test-4 (c .before) ∙ c .if4 .left) in
+    let k = neither-first (outside 3 (s .args .n) (s .args .s)) (not (eqb (s .args .s % 3) 0)) (test-4 (c .before) ∙ c .if4 .left) in
     let m : s .args .s ≤ s .args .n = in-range 3 (s .args .n) (s .args .s) k in
     omega arith
 

@@ -3,12 +3,13 @@ use mathlib.Core.Path.{_≡_, sym, _∙_, ap₂, subst}
 use mathlib.Core.List.{List, [], _∷_}
 use Prim.Native.Nat.{ℕ, _+_, _*_, _≤_, _^_}
 use borrow.Author.Needs.{needs}
-use lib.IntN.{ℤ, pos, natAbs}
+use lib.IntN.{ℤ, pos, natAbs, _-ℤ_, _*ℤ_}
 use lib.ListN.{getD}
 use mir.Syntax.{w64}
-use Rattle.integers.proofs.Ring.{Expr, var, _⊕_, _⊝_, _⊗_}
+use Rattle.integers.proofs.Ring.{Expr, var, _⊝_, _⊗_}
 use Rattle.integers.proofs.Machine.{Leaf, given, fits, exact, size-read}
-use Rattle.eisenstein.specs.Values.{value, _*ω_}
+use Rattle.eisenstein.specs.Values.{ℤ[ω], value, _*ω_}
+use Rattle.eisenstein.proofs.Solver.{ringω, parts, _≐_, _⊠_}
 use Rattle.polynomials.specs.Polynomials.{coefficient}
 use Rattle.etru.proofs.arrays.product.Statement.{statement}
 use Rattle.etru.proofs.arrays.product.Tie as tie
@@ -42,7 +43,12 @@ abbrev a : Expr
 a = xa ⊗ ya ⊝ xb ⊗ yb
 
 abbrev b : Expr
-b = xa ⊗ yb ⊕ xb ⊗ ya ⊝ xb ⊗ yb
+b = xa ⊗ ya ⊝ (xa ⊝ xb) ⊗ (ya ⊝ yb)
+
+-- what is computed is the product
+by-three : (x y : ℤ[ω]) → value ((x .a *ℤ y .a) -ℤ (x .b *ℤ y .b)) ((x .a *ℤ y .a) -ℤ ((x .a -ℤ x .b) *ℤ (y .a -ℤ y .b))) ≡ x *ω y
+unfolding _*ω_
+by-three = ringω 2 (λ x y. parts (x .a ⊗ y .a ⊝ x .b ⊗ y .b) (x .a ⊗ y .a ⊝ (x .a ⊝ x .b) ⊗ (y .a ⊝ y .b)) ≐ x ⊠ y) tt
 
 x-is : (c : tie.After-at4) → value (c .before .before .before .at .result) (c .before .before .at2 .result) ≡ coefficient (c .before .before .before .before .args .x .now) (c .before .before .before .before .args .j)
 unfolding coefficient
@@ -53,11 +59,10 @@ unfolding coefficient
 y-is c = ap₂ value (c .before .at3 .ensures .0) (c .at4 .ensures .0)
 
 returns : tie.Need-returns
-unfolding _*ω_
 returns c = (
-  ap₂ value (exact w64 (ρ c) a tt) (exact w64 (ρ c) b tt) ∙ ap₂ _*ω_ (x-is c) (y-is c),
-  size-read w64 (ρ c) a (2 ^ 28) tt tt,
-  size-read w64 (ρ c) b (2 ^ 28) tt tt,
+  ap₂ value (exact w64 (ρ c) a tt) (exact w64 (ρ c) b tt) ∙ by-three _ _ ∙ ap₂ _*ω_ (x-is c) (y-is c),
+  size-read w64 (ρ c) a (2 ^ 29) tt tt,
+  size-read w64 (ρ c) b (2 ^ 29) tt tt,
 )
 
 pub product-spec : {M : Type 1} → statement M
@@ -77,9 +82,8 @@ product-spec =
     (λ c. fits w64 (ρ c) (xa ⊗ ya) tt)
     (λ c. fits w64 (ρ c) (xb ⊗ yb) tt)
     (λ c. fits w64 (ρ c) a tt)
-    (λ c. fits w64 (ρ c) (xa ⊗ yb) tt)
-    (λ c. fits w64 (ρ c) (xb ⊗ ya) tt)
-    (λ c. fits w64 (ρ c) (xa ⊗ yb ⊕ xb ⊗ ya) tt)
-    (λ c. fits w64 (ρ c) (xb ⊗ yb) tt)
+    (λ c. fits w64 (ρ c) (xa ⊝ xb) tt)
+    (λ c. fits w64 (ρ c) (ya ⊝ yb) tt)
+    (λ c. fits w64 (ρ c) ((xa ⊝ xb) ⊗ (ya ⊝ yb)) tt)
     (λ c. fits w64 (ρ c) b tt)
     returns)

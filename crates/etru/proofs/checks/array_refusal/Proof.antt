@@ -1,24 +1,20 @@
 -- `array_refusal` meets its contract: each test is the definition's, in its order.
-use mathlib.Core.Path.{_≡_, sym, _∙_, ap, ap₂}
+use mathlib.Core.Path.{_≡_, sym, _∙_, ap}
 use mathlib.Core.Bool.{Bool, not}
 use mathlib.Core.List.{List, [], _∷_}
 use Prim.Native.Nat.{_*_}
 use borrow.Author.Needs.{needs}
-use borrow.Author.Tests.{not-true, not-false, ne-eqb}
+use borrow.Author.Tests.{ne-eqb}
 use lib.ListN.{length}
-use mir.Syntax.{w32}
-use mir.Val.{toZ, ofZ}
-use mir.Facts.{toZ-ofZ, yes-eqb}
+use mir.Facts.{yes-eqb}
 use Rattle.refusals.specs.Outcomes.{Check, _if_, outcome}
-use Rattle.refusals.proofs.Checks.{holds-passed, fails-refused, passed, none-left}
+use Rattle.refusals.proofs.Checks.{holds-passed, fails-refused, none-left, call-passed, call-refused}
 use Rattle.eisenstein.specs.Values.{ℤ[ω], value}
-use Rattle.eisenstein.specs.Calls.{beyond}
+use Rattle.eisenstein.proofs.Pairs.{pair-read}
 use Rattle.etru.specs.Calls.{full, inSet, notInSet, arrayChecks}
+use Rattle.etru.proofs.Sizes.{modulus-in-range, modulus-not-zero}
 use Rattle.etru.proofs.checks.array_refusal.Statement.{statement}
 use Rattle.etru.proofs.checks.array_refusal.Tie as tie
-
-q-read : (s : tie.Start) → value (toZ w32 (ofZ w32 (s .args .c))) (toZ w32 (ofZ w32 (s .args .d))) ≡ value (s .args .c) (s .args .d)
-q-read s = ap₂ value (toZ-ofZ (s .fits .c)) (toZ-ofZ (s .fits .d))
 
 abbrev test-7 : tie.Start → Bool
 test-7 s = full (s .args .n) (length (s .args .x .now))
@@ -29,11 +25,11 @@ test-set s q = inSet (record { N = s .args .n; q = q; s = s .args .s; t = s .arg
 abbrev from-set : tie.Start → List Check
 from-set s = notInSet (s .args .which) if not (test-set s (value (s .args .c) (s .args .d))) ∷ []
 
-tested-set : (c : tie.After-in-set) → test-set (c .before .before) (value (c .before .before .args .c) (c .before .before .args .d)) ≡ c .in-set .result
-tested-set c = sym (c .in-set .ensures ∙ ap (test-set (c .before .before)) (q-read (c .before .before)))
+tested-set : (c : tie.After-in-set) → c .in-set .result ≡ test-set (c .before .before) (value (c .before .before .args .c) (c .before .before .args .d))
+tested-set c = c .in-set .ensures ∙ ap (test-set (c .before .before)) (pair-read (c .before .before .fits .c) (c .before .before .fits .d))
 
 after-7 : (c : tie.Else1) → outcome (7 if not (test-7 (c .before)) ∷ from-set (c .before)) (tt {0}) ≡ outcome (from-set (c .before)) (tt {0})
-after-7 c = holds-passed 7 (test-7 (c .before)) (from-set (c .before)) tt (yes-eqb (c .if1 .left))
+after-7 c = holds-passed 7 (test-7 (c .before)) _ tt (yes-eqb (c .if1 .left))
 
 pub array-refusal-spec : {M : Type 1} → statement M
 unfolding arrayChecks
@@ -41,17 +37,17 @@ array-refusal-spec =
     tie.close
     (tie.spec
     (λ c. search needs)
-    (λ c. sym (fails-refused 7 (test-7 (c .before)) (from-set (c .before)) tt (ne-eqb (length (c .before .args .x .now)) (2 * c .before .args .n) (c .if1 .taken))))
+    (λ c. sym (fails-refused 7 _ _ tt (ne-eqb (length (c .before .args .x .now)) (2 * c .before .args .n) (c .if1 .taken))))
     (λ c κs.
     let s = c .before in
-    (s .pre .0, c .if1 .left, ap (beyond 4095) (q-read s) ∙ s .pre .1, (λ e. s .pre .2 (sym (q-read s) ∙ e))))
+    (s .pre .0, c .if1 .left, modulus-in-range (s .fits .c) (s .fits .d) (s .pre .1), modulus-not-zero (s .fits .c) (s .fits .d) (s .pre .2)))
     (λ c κs. search needs)
     (λ c.
     let s = c .before .before .before .before in
     c .not-in-set .ensures
     ∙ sym
     (after-7 (c .before .before .before)
-    ∙ fails-refused (notInSet (s .args .which)) (test-set s (value (s .args .c) (s .args .d))) [] tt (tested-set (c .before .before) ∙ not-true _ (c .before .if2 .taken))))
+    ∙ call-refused (notInSet (s .args .which)) _ tt (tested-set (c .before .before)) (c .before .if2 .taken)))
     (λ c.
     sym
-    (after-7 (c .before .before) ∙ passed (notInSet (c .before .before .before .args .which)) [] tt (ap not (tested-set (c .before) ∙ not-false _ (c .if2 .left))) ∙ none-left tt)))
+    (after-7 (c .before .before) ∙ call-passed (notInSet (c .before .before .before .args .which)) _ tt (tested-set (c .before)) (c .if2 .left) ∙ none-left tt)))

@@ -14,6 +14,7 @@ pub full-message-and-array-spec : {M : Type 1} → statement M
 full-message-and-array-spec =
     tie.close
     (tie.spec
+    (λ c. search needs)
     (λ c κs. search needs)
     (λ c. search needs)
     (λ c.

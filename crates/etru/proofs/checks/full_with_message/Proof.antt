@@ -15,6 +15,7 @@ pub full-with-message-spec : {M : Type 1} → statement M
 full-with-message-spec =
     tie.close
     (tie.spec
+    (λ c. search needs)
     (λ c κs. search needs)
     (λ c κs. search needs)
     (λ c.

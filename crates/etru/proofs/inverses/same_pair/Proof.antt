@@ -2,8 +2,9 @@
 use mathlib.Core.Path.{_∙_, ap₂}
 use borrow.Author.Needs.{needs}
 use mir.Syntax.{w32, w64}
-use Rattle.integers.proofs.Machine.{cast-fits, cast-read}
-use Rattle.eisenstein.specs.Values.{value, same}
+use Rattle.integers.proofs.Machine.{cast-fits}
+use Rattle.eisenstein.specs.Values.{same}
+use Rattle.eisenstein.proofs.Pairs.{pair-cast}
 use Rattle.etru.proofs.inverses.same_pair.Statement.{statement}
 use Rattle.etru.proofs.inverses.same_pair.Tie as tie
 
@@ -19,5 +20,5 @@ same-pair-spec =
     (λ c.
     let s = c .before .before .before .before .before in
     c .equal .ensures
-    ∙ ap₂ same (ap₂ value (cast-read {w = w32} w64 {z = s .args .x .a} tt (search needs)) (cast-read {w = w32} w64 {z = s .args .x .b} tt (search needs)))
-    (ap₂ value (cast-read {w = w32} w64 {z = s .args .y .a} tt (search needs)) (cast-read {w = w32} w64 {z = s .args .y .b} tt (search needs)))))
+    ∙ ap₂ same (pair-cast {w = w32} w64 {a = s .args .x .a} {b = s .args .x .b} tt (search needs) (search needs))
+    (pair-cast {w = w32} w64 {a = s .args .y .a} {b = s .args .y .b} tt (search needs) (search needs))))

@@ -16,10 +16,10 @@ use Rattle.etru.proofs.products.coefficient_of.Tie as tie
 
 abbrev ρ : tie.After-dot2 → List Leaf
 ρ c =
-    given (c .before .dot .result .a) (2 ^ 38) (omega (arith, c .before .dot .ensures .1, c .before .before .pre .0))
-    ∷ given (c .before .dot .result .b) (2 ^ 38) (omega (arith, c .before .dot .ensures .2, c .before .before .pre .0))
-    ∷ given (c .dot2 .result .a) (2 ^ 38) (omega (arith, c .dot2 .ensures .1, c .before .before .pre .0))
-    ∷ given (c .dot2 .result .b) (2 ^ 38) (omega (arith, c .dot2 .ensures .2, c .before .before .pre .0))
+    given (c .before .dot .result .a) (2 ^ 39) (omega (arith, c .before .dot .ensures .1, c .before .before .pre .0))
+    ∷ given (c .before .dot .result .b) (2 ^ 39) (omega (arith, c .before .dot .ensures .2, c .before .before .pre .0))
+    ∷ given (c .dot2 .result .a) (2 ^ 39) (omega (arith, c .dot2 .ensures .1, c .before .before .pre .0))
+    ∷ given (c .dot2 .result .b) (2 ^ 39) (omega (arith, c .dot2 .ensures .2, c .before .before .pre .0))
     ∷ []
 
 abbrev a : Expr
@@ -36,8 +36,8 @@ returns c =
       ap₂ value (exact w64 (ρ d) a tt) (exact w64 (ρ d) b tt)
           ∙ ap₂ _+ω_ (d .before .dot .ensures .0) (d .dot2 .ensures .0)
           ∙ sym (convolution-split (s .args .n) (coefficient (s .args .x .now)) (coefficient (s .args .y .now)) (s .args .i) (s .pre .0 .0)),
-      subst (λ (z : ℤ). natAbs z ≤ 2 ^ 38) (sym (exact w64 (ρ d) a tt)) (omega (arith, natAbs-+ (d .before .dot .result .a) (d .dot2 .result .a), d .before .dot .ensures .1, d .dot2 .ensures .1, s .pre .0)),
-      subst (λ (z : ℤ). natAbs z ≤ 2 ^ 38) (sym (exact w64 (ρ d) b tt)) (omega (arith, natAbs-+ (d .before .dot .result .b) (d .dot2 .result .b), d .before .dot .ensures .2, d .dot2 .ensures .2, s .pre .0)),
+      subst (λ (z : ℤ). natAbs z ≤ 2 ^ 39) (sym (exact w64 (ρ d) a tt)) (omega (arith, natAbs-+ (d .before .dot .result .a) (d .dot2 .result .a), d .before .dot .ensures .1, d .dot2 .ensures .1, s .pre .0)),
+      subst (λ (z : ℤ). natAbs z ≤ 2 ^ 39) (sym (exact w64 (ρ d) b tt)) (omega (arith, natAbs-+ (d .before .dot .result .b) (d .dot2 .result .b), d .before .dot .ensures .2, d .dot2 .ensures .2, s .pre .0)),
     )
 
 pub coefficient-of-spec : {M : Type 1} → statement M

@@ -1,14 +1,14 @@
 -- `reduced_2` meets its contract: within the limits nothing is refused.
-use mathlib.Core.Path.{_≡_, sym, _∙_, ap, ap₂}
+use mathlib.Core.Path.{_≡_, sym, _∙_, ap}
 use Prim.Native.Nat.{_^_}
 use borrow.Author.Needs.{needs}
-use mir.Facts.{toZ-ofZ}
 use Rattle.refusals.specs.Outcomes.{done}
 use Rattle.refusals.proofs.Checks.{same-done, never-done}
 use Rattle.eisenstein.specs.Values.{value}
 use Rattle.eisenstein.specs.Reduction.{mod2}
 use Rattle.eisenstein.specs.Calls.{answered, reduce2}
 use Rattle.eisenstein.proofs.Limits.{not-beyond, reduce2-done}
+use Rattle.eisenstein.proofs.Pairs.{pair-read}
 use Rattle.etru.proofs.products.reduced_2.Statement.{statement}
 use Rattle.etru.proofs.products.reduced_2.Tie as tie
 
@@ -16,7 +16,7 @@ accepted : (c : tie.After-reduce-2) → answered (c .reduce-2 .result) ≡ done 
 accepted c =
     let s = c .before in
     c .reduce-2 .ensures
-    ∙ ap reduce2 (ap₂ value (toZ-ofZ (s .fits .a)) (toZ-ofZ (s .fits .b)))
+    ∙ ap reduce2 (pair-read (s .fits .a) (s .fits .b))
     ∙ reduce2-done (value (s .args .a) (s .args .b)) (not-beyond (2 ^ 40) (value (s .args .a) (s .args .b)) (s .pre .0) (s .pre .1))
 
 pub reduced-2-spec : {M : Type 1} → statement M

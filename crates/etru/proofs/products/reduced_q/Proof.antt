@@ -2,13 +2,13 @@
 use mathlib.Core.Path.{_≡_, sym, _∙_, ap, ap₂}
 use Prim.Native.Nat.{_^_}
 use borrow.Author.Needs.{needs}
-use mir.Facts.{toZ-ofZ}
 use Rattle.refusals.specs.Outcomes.{done}
 use Rattle.refusals.proofs.Checks.{same-done, never-done}
 use Rattle.eisenstein.specs.Values.{value}
 use Rattle.eisenstein.specs.Reduction.{modQ}
 use Rattle.eisenstein.specs.Calls.{answered, reduceQ}
 use Rattle.eisenstein.proofs.Limits.{not-beyond, reduceQ-done}
+use Rattle.eisenstein.proofs.Pairs.{pair-read}
 use Rattle.etru.proofs.products.reduced_q.Statement.{statement}
 use Rattle.etru.proofs.products.reduced_q.Tie as tie
 
@@ -16,7 +16,7 @@ accepted : (c : tie.After-reduce-q) → answered (c .reduce-q .result) ≡ done 
 accepted c =
     let s = c .before in
     c .reduce-q .ensures
-    ∙ ap₂ reduceQ (ap₂ value (toZ-ofZ (s .fits .c)) (toZ-ofZ (s .fits .d))) (ap₂ value (toZ-ofZ (s .fits .a)) (toZ-ofZ (s .fits .b)))
+    ∙ ap₂ reduceQ (pair-read (s .fits .c) (s .fits .d)) (pair-read (s .fits .a) (s .fits .b))
     ∙ reduceQ-done (value (s .args .c) (s .args .d)) (value (s .args .a) (s .args .b)) (s .pre .2) (s .pre .3) (not-beyond (2 ^ 40) (value (s .args .a) (s .args .b)) (s .pre .0) (s .pre .1))
 
 pub reduced-q-spec : {M : Type 1} → statement M

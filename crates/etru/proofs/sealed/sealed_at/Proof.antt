@@ -1,7 +1,7 @@
--- `sealed_at` meets its contract: 2φ × h is φ × h added to itself.
-use mathlib.Core.Path.{_≡_, sym, _∙_, ap, ap₂}
+-- `sealed_at` meets its contract.
+use mathlib.Core.Path.{_∙_, ap₂}
 use mathlib.Core.List.{List, [], _∷_}
-use Prim.Native.Nat.{ℕ, _^_}
+use Prim.Native.Nat.{_^_}
 use native.Mathlib.Omega.{arith}
 use borrow.Author.Needs.{needs}
 use lib.IntN.{ℤ}
@@ -13,9 +13,9 @@ use Rattle.integers.proofs.Ring.{Expr, var, _⊕_}
 use Rattle.integers.proofs.Machine.{Leaf, given, fits, exact, size-read, cast-fits}
 use Rattle.eisenstein.specs.Values.{value, _+ω_}
 use Rattle.eisenstein.specs.Reduction.{modQ}
-use Rattle.eisenstein.specs.Calls.{beyond}
-use Rattle.polynomials.specs.Polynomials.{Polynomial, coefficient, convolution}
-use Rattle.polynomials.proofs.Promises.{convolution-commutes, convolution-adds}
+use Rattle.eisenstein.proofs.Pairs.{pair-read}
+use Rattle.polynomials.specs.Polynomials.{coefficient}
+use Rattle.etru.proofs.Sizes.{modulus-in-range, modulus-not-zero}
 use Rattle.etru.proofs.sealed.sealed_at.Statement.{statement}
 use Rattle.etru.proofs.sealed.sealed_at.Tie as tie
 
@@ -23,31 +23,18 @@ use Rattle.etru.proofs.sealed.sealed_at.Tie as tie
 abbrev cast : (z : ℤ) → SFits w32 z → Leaf
 cast z f = record { code = toZ w32 (ofZ w32 z); meant = z; bound = 2 ^ 31; is = toZ-ofZ f; small = natAbs-le z (f .sfits) }
 
-doubled : (N : ℕ) (x y : Polynomial) (i : ℕ) → convolution N x y i +ω convolution N x y i ≡ convolution N (λ j. x j +ω x j) y i
-doubled N x y i =
-    ap₂ _+ω_ (convolution-commutes N x y i) (convolution-commutes N x y i)
-    ∙ sym (convolution-adds N y x x i)
-    ∙ convolution-commutes N y (λ j. x j +ω x j) i
-
-q-read : (c : tie.Start) → value (toZ w32 (ofZ w32 (c .args .c))) (toZ w32 (ofZ w32 (c .args .d))) ≡ value (c .args .c) (c .args .d)
-q-read c = ap₂ value (toZ-ofZ (c .fits .c)) (toZ-ofZ (c .fits .d))
-
-a-fits : (c : tie.After-struct-told4) → SFits w32 (c .before .before .pair-of .result .a)
+a-fits : (c : tie.After-pair-of) → SFits w32 (c .pair-of .result .a)
 a-fits c = search needs
 
-b-fits : (c : tie.After-struct-told4) → SFits w32 (c .before .before .pair-of .result .b)
+b-fits : (c : tie.After-pair-of) → SFits w32 (c .pair-of .result .b)
 b-fits c = search needs
 
 -- the numbers that each part of the sum is computed from
-abbrev ρ-a : tie.After-struct-told4 → List Leaf
-ρ-a c =
-    let w = c .before .before .before .before .before .coefficient-of in
-    given (w .result .a) (2 ^ 38) (w .ensures .1) ∷ cast (c .before .before .pair-of .result .a) (a-fits c) ∷ []
+abbrev ρ-a : tie.After-pair-of → List Leaf
+ρ-a c = let p = c .before .before .at in given (p .result) (2 ^ 31) (p .ensures .1) ∷ cast (c .pair-of .result .a) (a-fits c) ∷ []
 
-abbrev ρ-b : tie.After-struct-told4 → List Leaf
-ρ-b c =
-    let w = c .before .before .before .before .before .coefficient-of in
-    given (w .result .b) (2 ^ 38) (w .ensures .2) ∷ cast (c .before .before .pair-of .result .b) (b-fits c) ∷ []
+abbrev ρ-b : tie.After-pair-of → List Leaf
+ρ-b c = let p = c .before .at2 in given (p .result) (2 ^ 31) (p .ensures .1) ∷ cast (c .pair-of .result .b) (b-fits c) ∷ []
 
 abbrev twice : Expr
 twice = var 0 ⊕ var 0
@@ -56,26 +43,29 @@ abbrev part : Expr
 part = twice ⊕ var 1
 
 pub sealed-at-spec : {M : Type 1} → statement M
-unfolding _+ω_
+unfolding _+ω_ coefficient
 sealed-at-spec =
     tie.close
     (tie.spec
+    (λ c. search needs)
+    (λ c κs. search needs)
+    (λ c. search needs)
+    (λ c. search needs)
     (λ c κs. search needs)
     (λ c κs. (omega arith, omega arith))
-    (λ c. fits w64 (ρ-a c) twice tt)
-    (λ c. cast-fits tt (a-fits c))
-    (λ c. fits w64 (ρ-a c) part tt)
-    (λ c. fits w64 (ρ-b c) twice tt)
-    (λ c. cast-fits tt (b-fits c))
-    (λ c. fits w64 (ρ-b c) part tt)
+    (λ c. fits w64 (ρ-a (c .before .before)) twice tt)
+    (λ c. cast-fits tt (a-fits (c .before .before)))
+    (λ c. fits w64 (ρ-a (c .before .before)) part tt)
+    (λ c. fits w64 (ρ-b (c .before .before)) twice tt)
+    (λ c. cast-fits tt (b-fits (c .before .before)))
+    (λ c. fits w64 (ρ-b (c .before .before)) part tt)
     (λ c κs.
-    let s = c .before .before .before .before .before .before .before in
-    (size-read w64 (ρ-a c) part (2 ^ 40) tt tt, size-read w64 (ρ-b c) part (2 ^ 40) tt tt, ap (beyond 4095) (q-read s) ∙ s .pre .0 .5, (λ e. s .pre .0 .6 (sym (q-read s) ∙ e))))
+    let m = c .before .before in
+    let s = c .before .before .before .before .before .before in
+    (size-read w64 (ρ-a m) part (2 ^ 40) tt tt, size-read w64 (ρ-b m) part (2 ^ 40) tt tt, modulus-in-range (s .fits .c) (s .fits .d) (s .pre .4), modulus-not-zero (s .fits .c) (s .fits .d) (s .pre .5)))
     (λ c.
-    let d = c .before in
-    let s = d .before .before .before .before .before .before .before in
-    let w = d .before .before .before .before .before .coefficient-of in
+    let m = c .before .before .before in
+    let s = c .before .before .before .before .before .before .before in
+    let p = ap₂ value (m .before .before .at .ensures .0) (m .before .at2 .ensures .0) in
     c .reduced-q .ensures
-    ∙ ap₂ modQ (q-read s)
-    (ap₂ value (exact w64 (ρ-a d) part tt) (exact w64 (ρ-b d) part tt)
-    ∙ ap₂ _+ω_ (ap₂ _+ω_ (w .ensures .0) (w .ensures .0) ∙ doubled (s .args .n) (coefficient (s .args .phi .now)) (coefficient (s .args .h .now)) (s .args .i)) (d .before .before .pair-of .ensures))))
+    ∙ ap₂ modQ (pair-read (s .fits .c) (s .fits .d)) (ap₂ value (exact w64 (ρ-a m) part tt) (exact w64 (ρ-b m) part tt) ∙ ap₂ _+ω_ (ap₂ _+ω_ p p) (m .pair-of .ensures))))

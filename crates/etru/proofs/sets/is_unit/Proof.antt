@@ -1,13 +1,13 @@
 -- `is_unit` meets its contract: the six units in the definition's order.
-use mathlib.Core.Path.{_≡_, refl, sym, _∙_, ap, ap₂}
+use mathlib.Core.Path.{_≡_, refl, sym, _∙_, ap}
 use mathlib.Core.Bool.{Bool, true, false, _||_}
 use mathlib.Core.List.{List, [], _∷_}
 use borrow.Author.Needs.{needs}
-use lib.IntN.{ℤ, pos, negsuc}
+use lib.ListN.{drop}
 use mir.Syntax.{w64}
-use mir.Val.{SFits, toZ, ofZ}
-use mir.Facts.{toZ-ofZ}
-use Rattle.eisenstein.specs.Values.{ℤ[ω], value, same}
+use mir.Val.{toZ, ofZ}
+use Rattle.eisenstein.specs.Values.{ℤ[ω], value, units, same}
+use Rattle.eisenstein.proofs.Pairs.{pair-read}
 use Rattle.polynomials.specs.Polynomials.{among}
 use Rattle.etru.proofs.sets.is_unit.Statement.{statement}
 use Rattle.etru.proofs.sets.is_unit.Tie as tie
@@ -16,8 +16,8 @@ abbrev x : tie.Start → ℤ[ω]
 x c = value (c .args .a) (c .args .b)
 
 -- what a call returned, of the value itself
-tested : {a b : ℤ} (u : ℤ[ω]) {t : Bool} → SFits w64 a → SFits w64 b → t ≡ same (value (toZ w64 (ofZ w64 a)) (toZ w64 (ofZ w64 b))) u → same (value a b) u ≡ t
-tested u f g e = sym (e ∙ ap (λ (y : ℤ[ω]). same y u) (ap₂ value (toZ-ofZ f) (toZ-ofZ g)))
+tested : (s : tie.Start) (u : ℤ[ω]) {t : Bool} → t ≡ same (value (toZ w64 (ofZ w64 (s .args .a))) (toZ w64 (ofZ w64 (s .args .b)))) u → same (x s) u ≡ t
+tested s u e = sym (e ∙ ap (λ (y : ℤ[ω]). same y u) (pair-read (s .fits .a) (s .fits .b)))
 
 -- the units one by one
 found : (us : List ℤ[ω]) (u x : ℤ[ω]) → same x u ≡ true → among (u ∷ us) x ≡ true
@@ -36,19 +36,35 @@ last u x {t} e = ap (λ (s : Bool). s || false) e ∙ or-false t
     or-false true = refl
     or-false false = refl
 
+-- the units that are left after the first k tests failed
+left-1 : (c : tie.Else1) → let s = c .before .before in among units (x s) ≡ among (drop 1 units) (x s)
+left-1 c = let s = c .before .before in passed _ _ (x s) (tested s _ (c .before .equal .ensures) ∙ c .if1 .left)
+
+left-2 : (c : tie.Else2) → let s = c .before .before .before .before in among units (x s) ≡ among (drop 2 units) (x s)
+left-2 c = let s = c .before .before .before .before in left-1 (c .before .before) ∙ passed _ _ (x s) (tested s _ (c .before .equal2 .ensures) ∙ c .if2 .left)
+
+left-3 : (c : tie.Else3) → let s = c .before .before .before .before .before .before in among units (x s) ≡ among (drop 3 units) (x s)
+left-3 c = let s = c .before .before .before .before .before .before in left-2 (c .before .before) ∙ passed _ _ (x s) (tested s _ (c .before .equal3 .ensures) ∙ c .if3 .left)
+
+left-4 : (c : tie.Else4) → let s = c .before .before .before .before .before .before .before .before in among units (x s) ≡ among (drop 4 units) (x s)
+left-4 c = let s = c .before .before .before .before .before .before .before .before in left-3 (c .before .before) ∙ passed _ _ (x s) (tested s _ (c .before .equal4 .ensures) ∙ c .if4 .left)
+
+left-5 : (c : tie.Else5) → let s = c .before .before .before .before .before .before .before .before .before .before in among units (x s) ≡ among (drop 5 units) (x s)
+left-5 c = let s = c .before .before .before .before .before .before .before .before .before .before in left-4 (c .before .before) ∙ passed _ _ (x s) (tested s _ (c .before .equal5 .ensures) ∙ c .if5 .left)
+
 pub is-unit-spec : {M : Type 1} → statement M
 is-unit-spec =
     tie.close
     (tie.spec
     (λ c κs. search needs)
-    (λ c. sym (found _ _ (x (c .before .before)) (tested (value (pos 1) (pos 0)) (c .before .before .fits .a) (c .before .before .fits .b) (c .before .equal .ensures) ∙ c .if1 .taken)))
+    (λ c. let s = c .before .before in sym (found _ _ (x s) (tested s _ (c .before .equal .ensures) ∙ c .if1 .taken)))
     (λ c κs. search needs)
-    (λ c. sym (passed _ _ (x (c .before .before .before .before)) (tested (value (pos 1) (pos 0)) (c .before .before .before .before .fits .a) (c .before .before .before .before .fits .b) (c .before .before .before .equal .ensures) ∙ c .before .before .if1 .left) ∙ found _ _ (x (c .before .before .before .before)) (tested (value (pos 1) (pos 1)) (c .before .before .before .before .fits .a) (c .before .before .before .before .fits .b) (c .before .equal2 .ensures) ∙ c .if2 .taken)))
+    (λ c. let s = c .before .before .before .before in sym (left-1 (c .before .before) ∙ found _ _ (x s) (tested s _ (c .before .equal2 .ensures) ∙ c .if2 .taken)))
     (λ c κs. search needs)
-    (λ c. sym (passed _ _ (x (c .before .before .before .before .before .before)) (tested (value (pos 1) (pos 0)) (c .before .before .before .before .before .before .fits .a) (c .before .before .before .before .before .before .fits .b) (c .before .before .before .before .before .equal .ensures) ∙ c .before .before .before .before .if1 .left) ∙ passed _ _ (x (c .before .before .before .before .before .before)) (tested (value (pos 1) (pos 1)) (c .before .before .before .before .before .before .fits .a) (c .before .before .before .before .before .before .fits .b) (c .before .before .before .equal2 .ensures) ∙ c .before .before .if2 .left) ∙ found _ _ (x (c .before .before .before .before .before .before)) (tested (value (pos 0) (pos 1)) (c .before .before .before .before .before .before .fits .a) (c .before .before .before .before .before .before .fits .b) (c .before .equal3 .ensures) ∙ c .if3 .taken)))
+    (λ c. let s = c .before .before .before .before .before .before in sym (left-2 (c .before .before) ∙ found _ _ (x s) (tested s _ (c .before .equal3 .ensures) ∙ c .if3 .taken)))
     (λ c κs. search needs)
-    (λ c. sym (passed _ _ (x (c .before .before .before .before .before .before .before .before)) (tested (value (pos 1) (pos 0)) (c .before .before .before .before .before .before .before .before .fits .a) (c .before .before .before .before .before .before .before .before .fits .b) (c .before .before .before .before .before .before .before .equal .ensures) ∙ c .before .before .before .before .before .before .if1 .left) ∙ passed _ _ (x (c .before .before .before .before .before .before .before .before)) (tested (value (pos 1) (pos 1)) (c .before .before .before .before .before .before .before .before .fits .a) (c .before .before .before .before .before .before .before .before .fits .b) (c .before .before .before .before .before .equal2 .ensures) ∙ c .before .before .before .before .if2 .left) ∙ passed _ _ (x (c .before .before .before .before .before .before .before .before)) (tested (value (pos 0) (pos 1)) (c .before .before .before .before .before .before .before .before .fits .a) (c .before .before .before .before .before .before .before .before .fits .b) (c .before .before .before .equal3 .ensures) ∙ c .before .before .if3 .left) ∙ found _ _ (x (c .before .before .before .before .before .before .before .before)) (tested (value (negsuc 0) (pos 0)) (c .before .before .before .before .before .before .before .before .fits .a) (c .before .before .before .before .before .before .before .before .fits .b) (c .before .equal4 .ensures) ∙ c .if4 .taken)))
+    (λ c. let s = c .before .before .before .before .before .before .before .before in sym (left-3 (c .before .before) ∙ found _ _ (x s) (tested s _ (c .before .equal4 .ensures) ∙ c .if4 .taken)))
     (λ c κs. search needs)
-    (λ c. sym (passed _ _ (x (c .before .before .before .before .before .before .before .before .before .before)) (tested (value (pos 1) (pos 0)) (c .before .before .before .before .before .before .before .before .before .before .fits .a) (c .before .before .before .before .before .before .before .before .before .before .fits .b) (c .before .before .before .before .before .before .before .before .before .equal .ensures) ∙ c .before .before .before .before .before .before .before .before .if1 .left) ∙ passed _ _ (x (c .before .before .before .before .before .before .before .before .before .before)) (tested (value (pos 1) (pos 1)) (c .before .before .before .before .before .before .before .before .before .before .fits .a) (c .before .before .before .before .before .before .before .before .before .before .fits .b) (c .before .before .before .before .before .before .before .equal2 .ensures) ∙ c .before .before .before .before .before .before .if2 .left) ∙ passed _ _ (x (c .before .before .before .before .before .before .before .before .before .before)) (tested (value (pos 0) (pos 1)) (c .before .before .before .before .before .before .before .before .before .before .fits .a) (c .before .before .before .before .before .before .before .before .before .before .fits .b) (c .before .before .before .before .before .equal3 .ensures) ∙ c .before .before .before .before .if3 .left) ∙ passed _ _ (x (c .before .before .before .before .before .before .before .before .before .before)) (tested (value (negsuc 0) (pos 0)) (c .before .before .before .before .before .before .before .before .before .before .fits .a) (c .before .before .before .before .before .before .before .before .before .before .fits .b) (c .before .before .before .equal4 .ensures) ∙ c .before .before .if4 .left) ∙ found _ _ (x (c .before .before .before .before .before .before .before .before .before .before)) (tested (value (negsuc 0) (negsuc 0)) (c .before .before .before .before .before .before .before .before .before .before .fits .a) (c .before .before .before .before .before .before .before .before .before .before .fits .b) (c .before .equal5 .ensures) ∙ c .if5 .taken)))
+    (λ c. let s = c .before .before .before .before .before .before .before .before .before .before in sym (left-4 (c .before .before) ∙ found _ _ (x s) (tested s _ (c .before .equal5 .ensures) ∙ c .if5 .taken)))
     (λ c κs. search needs)
-    (λ c. sym (passed _ _ (x (c .before .before .before .before .before .before .before .before .before .before .before)) (tested (value (pos 1) (pos 0)) (c .before .before .before .before .before .before .before .before .before .before .before .fits .a) (c .before .before .before .before .before .before .before .before .before .before .before .fits .b) (c .before .before .before .before .before .before .before .before .before .before .equal .ensures) ∙ c .before .before .before .before .before .before .before .before .before .if1 .left) ∙ passed _ _ (x (c .before .before .before .before .before .before .before .before .before .before .before)) (tested (value (pos 1) (pos 1)) (c .before .before .before .before .before .before .before .before .before .before .before .fits .a) (c .before .before .before .before .before .before .before .before .before .before .before .fits .b) (c .before .before .before .before .before .before .before .before .equal2 .ensures) ∙ c .before .before .before .before .before .before .before .if2 .left) ∙ passed _ _ (x (c .before .before .before .before .before .before .before .before .before .before .before)) (tested (value (pos 0) (pos 1)) (c .before .before .before .before .before .before .before .before .before .before .before .fits .a) (c .before .before .before .before .before .before .before .before .before .before .before .fits .b) (c .before .before .before .before .before .before .equal3 .ensures) ∙ c .before .before .before .before .before .if3 .left) ∙ passed _ _ (x (c .before .before .before .before .before .before .before .before .before .before .before)) (tested (value (negsuc 0) (pos 0)) (c .before .before .before .before .before .before .before .before .before .before .before .fits .a) (c .before .before .before .before .before .before .before .before .before .before .before .fits .b) (c .before .before .before .before .equal4 .ensures) ∙ c .before .before .before .if4 .left) ∙ passed _ _ (x (c .before .before .before .before .before .before .before .before .before .before .before)) (tested (value (negsuc 0) (negsuc 0)) (c .before .before .before .before .before .before .before .before .before .before .before .fits .a) (c .before .before .before .before .before .before .before .before .before .before .before .fits .b) (c .before .before .equal5 .ensures) ∙ c .before .if5 .left) ∙ last _ (x (c .before .before .before .before .before .before .before .before .before .before .before)) (tested (value (pos 0) (negsuc 0)) (c .before .before .before .before .before .before .before .before .before .before .before .fits .a) (c .before .before .before .before .before .before .before .before .before .before .before .fits .b) (c .equal6 .ensures)))))
+    (λ c. let s = c .before .before .before .before .before .before .before .before .before .before .before in sym (left-5 (c .before) ∙ last _ (x s) (tested s _ (c .equal6 .ensures)))))

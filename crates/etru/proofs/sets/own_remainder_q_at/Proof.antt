@@ -1,45 +1,47 @@
 -- `own_remainder_q_at` meets its contract.
-use mathlib.Core.Path.{_≡_, sym, _∙_, ap, ap₂}
-use Prim.Native.Nat.{_≤_}
-use native.Mathlib.Nat.{le-trans}
+use mathlib.Core.Path.{_≡_, _∙_, ap₂}
+use mathlib.Core.Bool.{not, _&&_}
+use Prim.Native.Nat.{ℕ, _+_, _*_}
 use borrow.Author.Needs.{needs}
-use lib.Dec.{lit≤}
-use mir.Syntax.{w32, w64}
+use lib.IntN.{ℤ, pos}
+use lib.ListN.{getD}
+use mir.Syntax.{w32}
 use mir.Val.{toZ, ofZ}
 use mir.Facts.{toZ-ofZ}
-use Rattle.integers.proofs.Machine.{cast-fits, cast-read}
-use Rattle.eisenstein.specs.Values.{value, same}
+use Rattle.eisenstein.specs.Values.{ℤ[ω], value, 𝟘, same}
 use Rattle.eisenstein.specs.Reduction.{modQ}
 use Rattle.eisenstein.specs.Calls.{beyond}
+use Rattle.eisenstein.proofs.Equality.{same-false}
+use Rattle.eisenstein.proofs.Pairs.{pair-read}
 use Rattle.polynomials.specs.Polynomials.{coefficient}
-use Rattle.etru.proofs.Sizes.{read-64, small-64}
 use Rattle.etru.proofs.sets.own_remainder_q_at.Statement.{statement}
 use Rattle.etru.proofs.sets.own_remainder_q_at.Tie as tie
 
-x-read : (c : tie.After-at2) → value (toZ w64 (ofZ w64 (c .before .at .result))) (toZ w64 (ofZ w64 (c .at2 .result))) ≡ coefficient (c .before .before .args .x .now) (c .before .before .args .i)
-unfolding coefficient
-x-read c = ap₂ value (read-64 (c .before .at .result) (le-trans (c .before .at .ensures .1) (lit≤ tt)) ∙ c .before .at .ensures .0) (read-64 (c .at2 .result) (le-trans (c .at2 .ensures .1) (lit≤ tt)) ∙ c .at2 .ensures .0)
+-- the coefficient and the modulus as the callee is handed them
+abbrev at : tie.Start → ℕ → ℤ
+at s k = toZ w32 (ofZ w32 (getD (s .args .x .now) k (pos 0)))
 
-q-read : (c : tie.Start) → value (toZ w32 (ofZ w32 (c .args .c))) (toZ w32 (ofZ w32 (c .args .d))) ≡ value (c .args .c) (c .args .d)
-q-read c = ap₂ value (toZ-ofZ (c .fits .c)) (toZ-ofZ (c .fits .d))
+x-read : (c : tie.After-b) → let s = c .before .before in value (at s (2 * s .args .i)) (at s (2 * s .args .i + 1)) ≡ coefficient (s .args .x .now) (s .args .i)
+unfolding coefficient
+x-read c = ap₂ value (toZ-ofZ (record { sfits = c .before .a .given })) (toZ-ofZ (record { sfits = c .b .given }))
+
+returns : tie.Need-returns
+returns c =
+    let s = c .before .before .before in
+    c .is-remainder .ensures
+    ∙ ap₂ (λ (q x : ℤ[ω]). not (beyond 4095 q) && (not (same q 𝟘) && same (modQ q x) x)) (pair-read (s .fits .c) (s .fits .d)) (x-read (c .before))
+    ∙ rw (s .pre .2, same-false (value (s .args .c) (s .args .d)) 𝟘 (s .pre .3))
 
 pub own-remainder-q-at-spec : {M : Type 1} → statement M
 own-remainder-q-at-spec =
     tie.close
     (tie.spec
     (λ c. search needs)
-    (λ c κs. search needs)
+    (λ c. search needs)
+    (λ c. search needs)
+    (λ c. search needs)
+    (λ c. search needs)
     (λ c. search needs)
     (λ c. search needs)
     (λ c κs. search needs)
-    (λ c κs. let s = c .before .before in (small-64 (c .before .at .result) (le-trans (c .before .at .ensures .1) (lit≤ tt)), small-64 (c .at2 .result) (le-trans (c .at2 .ensures .1) (lit≤ tt)), ap (beyond 4095) (q-read s) ∙ s .pre .2, (λ e. s .pre .3 (sym (q-read s) ∙ e))))
-    (λ c. cast-fits {w = w32} {z = c .before .before .reduced-q .result .a} tt (search needs))
-    (λ c. cast-fits {w = w32} {z = c .before .before .reduced-q .result .b} tt (search needs))
-    (λ c κs. search needs)
-    (λ c.
-    let d = c .before .before .before in
-    let s = d .before .before .before in
-    let x = x-read (d .before) in
-    let back-a = cast-read {w = w32} w64 {z = d .reduced-q .result .a} tt (search needs) in
-    let back-b = cast-read {w = w32} w64 {z = d .reduced-q .result .b} tt (search needs) in
-    c .equal .ensures ∙ ap₂ same (ap₂ value back-a back-b ∙ d .reduced-q .ensures ∙ ap₂ modQ (q-read s) x) x))
+    returns)

@@ -1,14 +1,15 @@
 -- `sum_is_zero` meets its contract. The loop's invariant: the sums so far, and a bound on them by the count of terms.
-use mathlib.Core.Path.{_≡_, refl, sym, _∙_, ap, ap₂}
+use mathlib.Core.Path.{_≡_, sym, _∙_, ap, ap₂}
 use Prim.Native.Nat.{ℕ, _+_, _-_, _*_, _^_, _≤_, _<_}
 use native.Mathlib.Omega.{arith}
 use native.Mathlib.Numerals.{add-one}
-use lib.IntN.{pos, natAbs}
+use lib.IntN.{natAbs}
 use mir.Syntax.{w64}
 use mir.Val.{toZ}
 use Rattle.integers.proofs.Machine.{sum-fits, sum-read, sum-size}
 use Rattle.eisenstein.specs.Values.{ℤ[ω], value, 𝟘, _+ω_, same}
-use Rattle.polynomials.specs.Polynomials.{Polynomial, coefficient, sum}
+use Rattle.polynomials.specs.Polynomials.{coefficient, sum}
+use Rattle.etru.proofs.Scans.{sum-none, sum-more}
 use Rattle.etru.proofs.sets.sum_is_zero.Statement.{statement}
 use Rattle.etru.proofs.sets.sum_is_zero.Tie as tie
 
@@ -18,14 +19,6 @@ Inv-loop x n a₀ b₀ i₀ a b i =
 
 abbrev μ-loop : tie.MeasureT-loop
 μ-loop x n a₀ b₀ i₀ a b i = n - i
-
-none : (x : Polynomial) → value (pos 0) (pos 0) ≡ sum 0 x
-unfolding sum
-none x = refl
-
-more : (x : Polynomial) (i : ℕ) → sum (i + 1) x ≡ sum i x +ω x i
-unfolding sum
-more x i = ap (λ (n : ℕ). sum n x) (add-one i)
 
 loop-again : tie.Need-loop-again Inv-loop μ-loop
 unfolding _+ω_ coefficient
@@ -37,7 +30,7 @@ loop-again c =
       omega (arith, c .before .before .loop-test .taken),
       ap₂ value (sum-read w64 i (2 ^ 31) (toZ w64 (l .loop .a)) (c .before .at .result) (l .loop .inv .2) (c .before .at .ensures .1) room) (sum-read w64 i (2 ^ 31) (toZ w64 (l .loop .b)) (c .at2 .result) (l .loop .inv .3) (c .at2 .ensures .1) room)
           ∙ ap₂ _+ω_ (l .loop .inv .1) (ap₂ value (c .before .at .ensures .0) (c .at2 .ensures .0))
-          ∙ sym (more (coefficient (s .args .x .now)) i),
+          ∙ sym (sum-more (coefficient (s .args .x .now)) i),
       sum-size w64 i (2 ^ 31) (toZ w64 (l .loop .a)) (c .before .at .result) (l .loop .inv .2) (c .before .at .ensures .1) room (i + 1) (add-one i),
       sum-size w64 i (2 ^ 31) (toZ w64 (l .loop .b)) (c .at2 .result) (l .loop .inv .3) (c .at2 .ensures .1) room (i + 1) (add-one i),
     )
@@ -48,7 +41,7 @@ sum-is-zero-spec =
     (tie.spec
     Inv-loop
     μ-loop
-    (λ c. (omega arith, none (coefficient (c .args .x .now)), omega arith, omega arith))
+    (λ c. (omega arith, sum-none (coefficient (c .args .x .now)), omega arith, omega arith))
     (λ c. omega arith)
     (λ c κs. omega arith)
     (λ c. let l = c .before .before in sum-fits w64 (l .loop .i) (2 ^ 31) (toZ w64 (l .loop .a)) (c .at .result) (l .loop .inv .2) (c .at .ensures .1) (omega (arith, l .before .pre .0, c .before .loop-test .taken)))

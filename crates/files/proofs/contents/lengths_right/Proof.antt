@@ -6,7 +6,7 @@ use native.Mathlib.Omega.{arith}
 use borrow.Author.Needs.{needs}
 use borrow.Author.Tests.{eq-eqb, ne-eqb}
 use lib.Dec.{eqb}
-use Rattle.files.specs.Files.{numberCount, fileLength}
+use Rattle.files.specs.Files.{fileNumbers, fileBytes}
 use Rattle.files.proofs.Bounds.{four-arrays}
 use Rattle.files.proofs.ArraysOfKinds.{at-most-four}
 use Rattle.files.proofs.contents.lengths_right.Statement.{statement}
@@ -23,7 +23,7 @@ abbrev right-file : tie.Start → ℕ → Bool
 right-file s count = eqb (s .args .file) (16 + 4 * s .args .n * count)
 
 pub lengths-right-spec : {M : Type 1} → statement M
-unfolding numberCount fileLength
+unfolding fileNumbers fileBytes
 lengths-right-spec =
     tie.close
     (tie.spec

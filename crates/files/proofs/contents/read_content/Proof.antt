@@ -14,7 +14,7 @@ use Rattle.etru.proofs.AcceptedParameters.{accepted-parameters}
 use Rattle.files.specs.Files.{numbersFrom}
 use Rattle.files.specs.Calls.{contentChecks}
 use Rattle.files.proofs.Bounds.{numbers-few}
-use Rattle.files.proofs.Passed.{contents-passed, file-length}
+use Rattle.files.proofs.Passed.{contents-passed, file-bytes}
 use Rattle.files.proofs.contents.read_content.Statement.{statement}
 use Rattle.files.proofs.contents.read_content.Tie as tie
 
@@ -40,7 +40,7 @@ read-content-spec =
     let s = c .before .before .before .before .before in
     let k = contents-passed (s .args .kind) (setOf (s .args .p)) (value-of s) (length (s .args .numbers .now)) (length (s .args .file .now)) (all-passed (c .before)) in (
       omega (arith, k .numbers-are, numbers-few (s .args .kind) (s .args .p .n) (accepted-parameters (setOf (s .args .p)) (s .pre) .N-small)),
-      omega (arith, k .file-is, k .numbers-are, file-length (s .args .kind) (s .args .p .n)),
+      omega (arith, k .file-is, k .numbers-are, file-bytes (s .args .kind) (s .args .p .n)),
     ))
     (λ c. search needs)
     (λ c. search needs)

@@ -1,21 +1,21 @@
 -- `sets_refusal` meets its contract. The loop's invariant: what is refused is what the checks from array k on refuse.
 use mathlib.Core.Path.{_≡_, sym, _∙_, ap, ap₂}
-use mathlib.Core.List.{[], _∷_}
+use mathlib.Core.List.{List, [], _∷_}
 use Prim.Native.Nat.{ℕ, _+_, _-_, _*_, _≤_, _<_}
 use native.Mathlib.Omega.{arith}
 use borrow.Author.Needs.{needs}
 use lib.ListN.{length, getD, take, drop, length-drop}
 use lib.Seq.{length-take-le}
-use Rattle.refusals.specs.Outcomes.{outcome}
+use Rattle.refusals.specs.Outcomes.{Check, outcome}
 use Rattle.refusals.specs.Numbers.{answered}
 use Rattle.parameters.specs.Sets.{setOf}
 use Rattle.etru.specs.declared.ArraySet.the-variants.{ReducedModuloQ}
 use Rattle.etru.specs.Calls.{arrayCheck}
 use Rattle.etru.proofs.AcceptedParameters.{accepted-parameters}
-use Rattle.files.specs.Files.{arraysOf}
+use Rattle.files.specs.Files.{arraysOf, arrayAt}
 use Rattle.files.specs.Calls.{setChecks}
 use Rattle.files.proofs.Bounds.{numbers-few, end-of-array}
-use Rattle.files.proofs.SetChecks.{own, own-check, first-array, array-at, set-at, from-array, array-passed, array-refused, all-arrays-passed}
+use Rattle.files.proofs.SetChecks.{own, own-check, first-array, set-at, from-array, array-passed, array-refused, all-arrays-passed}
 use Rattle.files.proofs.contents.sets_refusal.Statement.{statement}
 use Rattle.files.proofs.contents.sets_refusal.Tie as tie
 
@@ -41,7 +41,8 @@ end-small c k h =
     omega (arith, end c k h, c .before .pre .1, numbers-few (c .before .args .kind) (c .before .args .p .n) (accepted-parameters (setOf (c .before .args .p)) (c .before .pre .0) .N-small))
 
 -- the check of array k, from what the call answered
-checked : (c : tie.After-check-array Inv-loop μ-loop) → let l = c .before .before .before .before in let s = l .before .before in outcome (own (setOf (s .args .p)) (set-at (setOf (s .args .p)) (arraysOf (s .args .kind)) (s .args .numbers .now) (l .loop .k)) (array-at (setOf (s .args .p)) (arraysOf (s .args .kind)) (s .args .numbers .now) (l .loop .k)) ∷ []) (tt {0}) ≡ answered (c .check-array .result)
+checked : (c : tie.After-check-array Inv-loop μ-loop) → let l = c .before .before .before .before in let s = l .before .before in outcome (own (setOf (s .args .p)) (set-at (setOf (s .args .p)) (arraysOf (s .args .kind)) (s .args .numbers .now) (l .loop .k)) (arrayAt (setOf (s .args .p)) (l .loop .k) (s .args .numbers .now)) ∷ []) (tt {0}) ≡ answered (c .check-array .result)
+unfolding arrayAt
 checked c =
     let l = c .before .before .before .before in
     let s = l .before .before in
@@ -64,7 +65,7 @@ sets-refusal-spec =
     (λ c. search needs)
     (λ c. search needs)
     (λ c κs. search needs)
-    (λ c. (omega arith, first-array (setOf (c .before .args .p)) (arraysOf (c .before .args .kind)) (c .before .args .numbers .now)))
+    (λ c. (omega arith, ap (λ (cs : List Check). outcome cs (tt {0})) (first-array (setOf (c .before .args .p)) (arraysOf (c .before .args .kind)) (c .before .args .numbers .now))))
     (λ c. omega (arith, end-small (c .before .before) (c .before .loop .k) (c .loop-test .taken)))
     (λ c. omega (arith, end-small (c .before .before) (c .before .loop .k) (c .loop-test .taken)))
     (λ c κs. tt)

@@ -10,7 +10,7 @@ use Rattle.etru.proofs.AcceptedParameters.{accepted-parameters}
 use Rattle.files.specs.Files.{arraysOf}
 use Rattle.files.specs.Calls.{setChecks}
 use Rattle.files.proofs.Bounds.{numbers-few}
-use Rattle.files.proofs.Passed.{file-length}
+use Rattle.files.proofs.Passed.{file-bytes}
 use Rattle.files.proofs.contents.sets_refusal_in.Statement.{statement}
 use Rattle.files.proofs.contents.sets_refusal_in.Tie as tie
 
@@ -21,7 +21,7 @@ sets-refusal-in-spec =
     (λ c κs.
     let s = c .before .before in (
       omega (arith, s .pre .2, numbers-few (s .args .kind) (s .args .p .n) (accepted-parameters (setOf (s .args .p)) (s .pre .0) .N-small)),
-      omega (arith, s .pre .1, s .pre .2, file-length (s .args .kind) (s .args .p .n)),
+      omega (arith, s .pre .1, s .pre .2, file-bytes (s .args .kind) (s .args .p .n)),
     ))
     (λ c κs. search needs)
     (λ c. search needs)

@@ -14,7 +14,7 @@ use Rattle.etru.proofs.AcceptedParameters.{accepted-parameters}
 use Rattle.files.specs.Files.{fileOf}
 use Rattle.files.specs.Calls.{contentChecks}
 use Rattle.files.proofs.Bounds.{numbers-few}
-use Rattle.files.proofs.Passed.{contents-passed, contents-small, file-length}
+use Rattle.files.proofs.Passed.{contents-passed, contents-small, file-bytes}
 use Rattle.files.proofs.contents.write_content.Statement.{statement}
 use Rattle.files.proofs.contents.write_content.Tie as tie
 
@@ -44,7 +44,7 @@ write-content-spec =
         s .pre .0,
         s .pre .1,
         omega (arith, k .numbers-are, numbers-few (s .args .kind) (s .args .p .n) (accepted-parameters P (s .pre .1) .N-small)),
-        omega (arith, k .file-is, k .numbers-are, file-length (s .args .kind) (s .args .p .n)),
+        omega (arith, k .file-is, k .numbers-are, file-bytes (s .args .kind) (s .args .p .n)),
       ),
       contents-small (s .args .kind) P (s .args .numbers .now) (s .pre .1) (k .numbers-are) (k .sets),
     ))

@@ -5,7 +5,6 @@ use native.Mathlib.Omega.{arith}
 use borrow.Author.Needs.{needs}
 use lib.Dec.{eqb}
 use lib.ListN.{getD}
-use Rattle.parameters.specs.Sets.{outside}
 use Rattle.files.proofs.heads.kind_wanted.Statement.{statement}
 use Rattle.files.proofs.heads.kind_wanted.Tie as tie
 

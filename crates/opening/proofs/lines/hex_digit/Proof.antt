@@ -1,4 +1,5 @@
 -- `hex_digit` meets its contract.
+use native.Mathlib.Omega.{arith}
 use borrow.Author.Needs.{needs}
 use borrow.Author.Tests.{lt-ltb, le-ltb}
 use Rattle.opening.specs.Lines.{hexDigit}
@@ -13,4 +14,4 @@ hex-digit-spec =
     (λ c. search needs)
     (λ c. rw (lt-ltb _ _ (c .if1 .taken)))
     (λ c. search needs)
-    (λ c. rw (le-ltb _ _ (c .if1 .left))))
+    (λ c. rw (le-ltb _ _ (c .if1 .left)) (omega arith)))

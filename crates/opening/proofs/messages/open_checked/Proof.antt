@@ -4,18 +4,18 @@ use Prim.Native.Nat.{_*_, _≤_}
 use native.Mathlib.Omega.{arith}
 use borrow.Author.Needs.{needs}
 use lib.ListN.{length, take}
-use lib.Seq.{length-take-le}
 use Rattle.parameters.specs.Sets.{setOf}
 use Rattle.etru.proofs.AcceptedParameters.{accepted-parameters}
+use Rattle.etru.proofs.Sizes.{zeros-part}
 use Rattle.opening.proofs.messages.open_checked.Statement.{statement}
 use Rattle.opening.proofs.messages.open_checked.Tie as tie
 
--- the lent part of the array
-room : (c : tie.After-one-array) → 2 * c .before .before .args .p .n ≤ length (c .one-array .result)
-room c = let s = c .before .before in omega (arith, c .one-array .ensures, accepted-parameters (setOf (s .args .p)) (s .pre .0) .N-small)
+few : (s : tie.Start) → s .args .p .n ≤ 1024
+few s = accepted-parameters (setOf (s .args .p)) (s .pre .0) .N-small
 
-part : (c : tie.After-one-array) → length (take (2 * c .before .before .args .p .n) (c .one-array .result)) ≡ 2 * c .before .before .args .p .n
-part c = length-take-le (2 * c .before .before .args .p .n) (c .one-array .result) (room c)
+-- the lent part of the array
+part : (c : tie.After-zeros) → length (take (2 * c .before .before .args .p .n) (c .zeros .result)) ≡ 2 * c .before .before .args .p .n
+part c = zeros-part (c .before .before .args .p .n) (c .zeros .result) (few (c .before .before)) (c .zeros .ensures)
 
 pub open-checked-spec : {M : Type 1} → statement M
 open-checked-spec =
@@ -24,7 +24,7 @@ open-checked-spec =
     (λ c. search needs)
     (λ c. search needs)
     (λ c κs. search needs)
-    room
+    (λ c. omega (arith, few (c .before .before)))
     (λ c. sym (part (c .before)))
     (λ c κs.
     let s = c .before .before .before .before in

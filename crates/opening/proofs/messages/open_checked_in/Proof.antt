@@ -18,7 +18,8 @@ use Rattle.polynomials.specs.Polynomials.{coefficient, array}
 use Rattle.packing.specs.Messages.{messageBytes}
 use Rattle.etru.specs.Scheme.{publicKey}
 use Rattle.etru.specs.Calls.{keyCheck, opening}
-use Rattle.opening.specs.Program.{arrayOf, inverseChecks, messageOf}
+use Rattle.files.specs.Files.{arrayAt}
+use Rattle.opening.specs.Program.{inverseChecks, messageOf}
 use Rattle.opening.proofs.ReadKeys.{part-is, key-checked, opens}
 use Rattle.opening.proofs.messages.open_checked_in.Statement.{statement}
 use Rattle.opening.proofs.messages.open_checked_in.Tie as tie
@@ -30,24 +31,24 @@ abbrev numbers : tie.Start → List ℤ
 numbers s = s .args .numbers .now
 
 -- the four arrays, as the code parts them
-abbrev one : tie.Start → ℕ
-one s = 2 * s .args .p .n
+abbrev width : tie.Start → ℕ
+width s = 2 * s .args .p .n
 
-f-is : (s : tie.Start) → take (one s) (numbers s) ≡ arrayOf (P s) 0 (numbers s)
-f-is s = part-is (P s) 0 (numbers s) (one s) 0 refl (omega arith)
+f-is : (s : tie.Start) → take (width s) (numbers s) ≡ arrayAt (P s) 0 (numbers s)
+f-is s = part-is (P s) 0 (numbers s) (width s) 0 refl (omega arith)
 
-F2-is : (s : tie.Start) → take (2 * one s - one s) (drop (one s) (numbers s)) ≡ arrayOf (P s) 1 (numbers s)
-F2-is s = part-is (P s) 1 (numbers s) (2 * one s - one s) (one s) (omega arith) (omega arith)
+F2-is : (s : tie.Start) → take (2 * width s - width s) (drop (width s) (numbers s)) ≡ arrayAt (P s) 1 (numbers s)
+F2-is s = part-is (P s) 1 (numbers s) (2 * width s - width s) (width s) (omega arith) (omega arith)
 
-Fq-is : (s : tie.Start) → take (3 * one s - 2 * one s) (drop (2 * one s) (numbers s)) ≡ arrayOf (P s) 2 (numbers s)
-Fq-is s = part-is (P s) 2 (numbers s) (3 * one s - 2 * one s) (2 * one s) (omega arith) (omega arith)
+Fq-is : (s : tie.Start) → take (3 * width s - 2 * width s) (drop (2 * width s) (numbers s)) ≡ arrayAt (P s) 2 (numbers s)
+Fq-is s = part-is (P s) 2 (numbers s) (3 * width s - 2 * width s) (2 * width s) (omega arith) (omega arith)
 
-g-is : (s : tie.Start) → take (4 * one s - 3 * one s) (drop (3 * one s) (numbers s)) ≡ arrayOf (P s) 3 (numbers s)
-g-is s = part-is (P s) 3 (numbers s) (4 * one s - 3 * one s) (3 * one s) (omega arith) (omega arith)
+g-is : (s : tie.Start) → take (4 * width s - 3 * width s) (drop (3 * width s) (numbers s)) ≡ arrayAt (P s) 3 (numbers s)
+g-is s = part-is (P s) 3 (numbers s) (4 * width s - 3 * width s) (3 * width s) (omega arith) (omega arith)
 
 -- the public key that the check forms
 abbrev public : tie.Start → List ℤ
-public s = array (P s .N) (publicKey (P s) (coefficient (arrayOf (P s) 2 (numbers s))) (coefficient (arrayOf (P s) 3 (numbers s))))
+public s = array (P s .N) (publicKey (P s) (coefficient (arrayAt (P s) 2 (numbers s))) (coefficient (arrayAt (P s) 3 (numbers s))))
 
 -- the key check's number is that of 13 and 14
 key-number : (c : tie.After-check-key) → let s = c .before .before .before .before .before .before .before in number (answered (c .check-key .result)) ≡ number (outcome (inverseChecks (P s) (numbers s)) (public s))
@@ -70,7 +71,7 @@ open-checked-in-spec =
     (λ c. search needs)
     (λ c. search needs)
     (λ c. search needs)
-    (λ c. let s = c .before .before in sym (length-take-le (one s) (numbers s) (omega (arith, s .pre .1))))
+    (λ c. let s = c .before .before in sym (length-take-le (width s) (numbers s) (omega (arith, s .pre .1))))
     (λ c. search needs)
     (λ c. search needs)
     (λ c. search needs)

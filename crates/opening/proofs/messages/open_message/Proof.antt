@@ -31,41 +31,43 @@ opening-done p f F2 e room old new z w =
     let d = done-as-written cs (unpacked (p .N) m) old new tt z w in
     (d, ap length (sym (done-parts cs (unpacked (p .N) m) new d .1)) ∙ unpacked-length (p .N) m)
 
--- the lent part has room for the message
-room : (s : tie.Start) → messageBytes (s .args .p .n) ≤ length (s .args .message .now)
-room s = omega (arith, s .pre .1, accepted-parameters (setOf (s .args .p)) (s .pre .0) .N-small)
-
-part : (s : tie.Start) → length (take (messageBytes (s .args .p .n)) (s .args .message .now)) ≡ messageBytes (s .args .p .n)
-part s = length-take-le (messageBytes (s .args .p .n)) (s .args .message .now) (room s)
+-- the lent part is as long as the message
+part : (c : tie.After-message-bytes) → let s = c .before .before in let k = c .message-bytes .result in (k ≤ length (s .args .message .now)) × (length (take k (s .args .message .now)) ≡ messageBytes (s .args .p .n))
+part c =
+    let s = c .before .before in
+    let k = c .message-bytes .result in
+    let room : k ≤ length (s .args .message .now) = omega (arith, c .message-bytes .ensures, s .pre .1, accepted-parameters (setOf (s .args .p)) (s .pre .0) .N-small) in
+    (room, length-take-le k (s .args .message .now) room ∙ c .message-bytes .ensures)
 
 -- the outcome with some room
 abbrev outcome-of : tie.Start → ℕ → Outcome (List ℕ)
 outcome-of s k = opening (setOf (s .args .p)) (s .args .f .now) (s .args .f2 .now) (s .args .e .now) k
 
-number-is : (c : tie.After-open) → number (answered (c .«open» .result)) ≡ number (outcome-of (c .before .before .before) (messageBytes (c .before .before .before .args .p .n)))
-number-is c = c .«open» .ensures .0 ∙ ap (λ (k : ℕ). number (outcome-of (c .before .before .before) k)) (part (c .before .before .before))
+number-is : (c : tie.After-open) → let s = c .before .before .before .before in number (answered (c .«open» .result)) ≡ number (outcome-of s (messageBytes (s .args .p .n)))
+number-is c = c .«open» .ensures .0 ∙ ap (λ (k : ℕ). number (outcome-of (c .before .before .before .before) k)) (part (c .before .before) .1)
 
 pub open-message-spec : {M : Type 1} → statement M
 open-message-spec =
     tie.close
     (tie.spec
-    (λ c. search needs)
-    (λ c. search needs)
-    (λ c. room (c .before))
-    (λ c. sym (part (c .before .before)))
+    (λ c κs. search needs)
+    (λ c. part c .0)
+    (λ c. let m = c .before in m .message-bytes .ensures ∙ sym (part m .1))
     (λ c κs. search needs)
     (λ c. search needs)
     (λ c. search needs)
     (λ c. search needs)
     (λ c.
     let r = c .before .before .before .before in
-    let s = r .before .before .before in
-    let k = messageBytes (s .args .p .n) in
+    let m = r .before .before in
+    let s = m .before .before in
+    let k = m .message-bytes .result in
+    let old = take k (s .args .message .now) in
     let new = r .«open» .last .1 .1 .1 .1 .0 in
-    let o = opening-done (setOf (s .args .p)) (s .args .f .now) (s .args .f2 .now) (s .args .e .now) k (take k (s .args .message .now)) new (sym (number-is r) ∙ ap (λ (a : Answer). number (answered a)) (c .enum-told .given .1)) (r .«open» .ensures .1 ∙ ap (λ (n : ℕ). written (outcome-of s n) (take k (s .args .message .now))) (part s)) in
-    ap done (take-at new (drop k (s .args .message .now)) k (o .1)) ∙ sym (o .0))
+    let o = opening-done (setOf (s .args .p)) (s .args .f .now) (s .args .f2 .now) (s .args .e .now) (messageBytes (s .args .p .n)) old new (sym (number-is r) ∙ ap (λ (a : Answer). number (answered a)) (c .enum-told .given .1)) (r .«open» .ensures .1 ∙ ap (λ (n : ℕ). written (outcome-of s n) old) (part m .1)) in
+    ap done (take-at new (drop k (s .args .message .now)) k (o .1 ∙ sym (m .message-bytes .ensures))) ∙ sym (o .0))
     (λ c. search needs)
     (λ c.
     let r = c .before .before .before .before .before in
     let n = c .before .refusal .given .0 .0 in
-    sym (refused-by-number (outcome-of (r .before .before .before) _) (numberOf n) (number-positive n) (sym (number-is r) ∙ ap (λ (a : Answer). number (answered a)) (c .before .refusal .given .1)))))
+    sym (refused-by-number (outcome-of (r .before .before .before .before) _) (numberOf n) (number-positive n) (sym (number-is r) ∙ ap (λ (a : Answer). number (answered a)) (c .before .refusal .given .1)))))

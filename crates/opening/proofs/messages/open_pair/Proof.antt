@@ -3,10 +3,9 @@ use mathlib.Core.Path.{_≡_, sym, _∙_, ap, ap₂, subst}
 use mathlib.Core.Bool.{Bool}
 use Prim.Native.Nat.{ℕ, _*_}
 use borrow.Author.Needs.{needs}
-use borrow.Author.Tests.{not-true, not-false}
 use lib.Dec.{T, eqb, eqb→eq}
 use mir.Facts.{and-yes}
-use Rattle.refusals.proofs.Checks.{fails-refused, holds-passed}
+use Rattle.refusals.proofs.Checks.{holds, call-passed, call-refused}
 use Rattle.eisenstein.specs.Values.{ℤ[ω], same}
 use Rattle.eisenstein.proofs.Equality.{same-yes}
 use Rattle.parameters.specs.Sets.{ParameterSet, setOf}
@@ -26,11 +25,8 @@ same-ring p p′ t =
 abbrev test-20 : tie.Start → Bool
 test-20 s = sameSet (setOf (s .args .p)) (setOf (s .args .sealed))
 
-tested-20 : (c : tie.After-same-parameters) → test-20 (c .before .before) ≡ c .same-parameters .result
-tested-20 c = sym (c .same-parameters .ensures)
-
 holds-20 : (c : tie.Else1) → T (test-20 (c .before .before .before))
-holds-20 c = subst T (sym (tested-20 (c .before) ∙ not-false _ (c .if1 .left))) tt
+holds-20 c = holds (c .before .same-parameters .ensures) (c .if1 .left)
 
 pub open-pair-spec : {M : Type 1} → statement M
 unfolding pairChecks
@@ -40,7 +36,7 @@ open-pair-spec =
     (λ c κs. search needs)
     (λ c.
     let s = c .before .before .before in
-    sym (fails-refused 20 (test-20 s) (inverseChecks (setOf (s .args .p)) (s .args .numbers .now)) (messageOf (setOf (s .args .p)) (s .args .numbers .now) (s .args .e .now)) (tested-20 (c .before) ∙ not-true _ (c .if1 .taken))))
+    sym (call-refused 20 (inverseChecks (setOf (s .args .p)) (s .args .numbers .now)) (messageOf (setOf (s .args .p)) (s .args .numbers .now) (s .args .e .now)) (c .before .same-parameters .ensures) (c .if1 .taken)))
     (λ c κs.
     let s = c .before .before .before .before in
     let k = same-ring (setOf (s .args .p)) (setOf (s .args .sealed)) (holds-20 (c .before)) in (
@@ -55,4 +51,4 @@ open-pair-spec =
     (λ c.
     let s = c .before .before .before .before .before .before .before in
     c .before .before .open-checked .ensures
-    ∙ sym (holds-passed 20 (test-20 s) (inverseChecks (setOf (s .args .p)) (s .args .numbers .now)) (messageOf (setOf (s .args .p)) (s .args .numbers .now) (s .args .e .now)) (holds-20 (c .before .before .before .before)))))
+    ∙ sym (call-passed 20 (inverseChecks (setOf (s .args .p)) (s .args .numbers .now)) (messageOf (setOf (s .args .p)) (s .args .numbers .now) (s .args .e .now)) (c .before .before .before .before .before .same-parameters .ensures) (c .before .before .before .before .if1 .left))))

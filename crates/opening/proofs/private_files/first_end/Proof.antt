@@ -3,12 +3,12 @@ use mathlib.Core.Path.{_∙_, ap}
 use Prim.Native.Nat.{ℕ, min}
 use native.Mathlib.Omega.{arith}
 use borrow.Author.Needs.{needs}
-use Rattle.files.specs.Files.{arraysOf, fileLength}
+use Rattle.files.specs.Files.{arraysOf, fileBytes}
 use Rattle.opening.proofs.private_files.first_end.Statement.{statement}
 use Rattle.opening.proofs.private_files.first_end.Tie as tie
 
 pub first-end-spec : {M : Type 1} → statement M
-unfolding fileLength arraysOf
+unfolding fileBytes arraysOf
 first-end-spec =
     tie.close
     (tie.spec

@@ -16,7 +16,7 @@ few s = N-small 2 (s .args .input .now) (setOf (s .args .p)) (s .pre .0)
 
 -- the lent part of the array
 room : (c : tie.After-four-arrays) → 8 * c .before .before .before .before .args .p .n ≤ length (c .four-arrays .result)
-room c = omega (arith, c .four-arrays .ensures, few (c .before .before .before .before))
+room c = omega (arith, few (c .before .before .before .before))
 
 part : (c : tie.After-four-arrays) → let k = 8 * c .before .before .before .before .args .p .n in length (take k (c .four-arrays .result)) ≡ k
 part c = length-take-le _ (c .four-arrays .result) (room c)

@@ -9,7 +9,7 @@ use lib.ListN.{length}
 use Rattle.refusals.specs.Outcomes.{outcome}
 use Rattle.refusals.proofs.Checks.{passed-all}
 use Rattle.parameters.specs.Sets.{ParameterSet, setOf}
-use Rattle.files.specs.Files.{arraysOf, numberCount, headOf}
+use Rattle.files.specs.Files.{arraysOf, fileNumbers, headOf}
 use Rattle.opening.specs.Program.{fileChecks, numbersOf, pairChecks, messageOf, openingPair}
 use Rattle.opening.proofs.InputParts.{pair-refused}
 use Rattle.opening.proofs.ReadFiles.{Read, accepted, file-read, file-refused}
@@ -17,8 +17,8 @@ use Rattle.opening.proofs.private_files.open_private_in.Statement.{stat
 use Rattle.opening.proofs.private_files.open_private_in.Tie as tie
 
 -- the room that is lent
-room : (s : tie.Start) → length (s .args .numbers .now) ≡ numberCount 2 (s .args .p .n)
-unfolding numberCount arraysOf
+room : (s : tie.Start) → length (s .args .numbers .now) ≡ fileNumbers 2 (s .args .p .n)
+unfolding fileNumbers arraysOf
 room s = omega arith
 
 -- the private file is read
@@ -26,13 +26,13 @@ private-read : (c : tie.After-enum-told) → let s = c .before .before .before .
 private-read c =
     let s = c .before .before .before .before .before .before .before .before in
     let r = c .before .before .before in
-    file-read 2 (s .args .first .now) (setOf (s .args .p)) (s .pre .0) (s .args .numbers .now) (room s) _ (r .read .ensures .0) _ (c .enum-told .given .1) (r .read .ensures .1)
+    file-read 2 (s .args .first .now) (setOf (s .args .p)) (s .pre .0) (s .args .numbers .now) _ (r .read .ensures .0) _ (c .enum-told .given .1) (r .read .ensures .1)
 
 -- what is left to check, and the message
 after-private : (p : ParameterSet) (first second : List ℕ) (numbers : List ℤ) → Read 2 p first numbers → outcome (fileChecks 3 second ++ pairChecks p numbers (headOf second)) (messageOf p numbers (numbersOf second)) ≡ openingPair first second
 unfolding openingPair
 after-private p first second numbers r =
-    rw (r .numbers-are, ← r .head) (sym (passed-all (fileChecks 2 first) _ _ (r .checks)))
+    rw (← r .numbers-are, ← r .head) (sym (passed-all (fileChecks 2 first) _ _ (r .checks)))
 
 pub open-private-in-spec : {M : Type 1} → statement M
 open-private-in-spec =
@@ -55,4 +55,4 @@ open-private-in-spec =
     let s = c .before .before .before .before .before .before .before .before .before in
     let r = c .before .before .before .before in
     let w = c .before .refusal .given in
-    sym (pair-refused (s .args .first .now) _ (w .0 .0) (file-refused 2 (s .args .first .now) (setOf (s .args .p)) (s .pre .0) (s .args .numbers .now) (room s) _ (r .read .ensures .0) (w .0 .0) (w .1)))))
+    sym (pair-refused (s .args .first .now) _ (w .0 .0) (file-refused 2 (s .args .first .now) (setOf (s .args .p)) (s .pre .0) (s .args .numbers .now) _ (r .read .ensures .0) (room s) (w .0 .0) (w .1)))))

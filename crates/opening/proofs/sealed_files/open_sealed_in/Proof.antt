@@ -11,7 +11,7 @@ use Rattle.refusals.specs.Outcomes.{done, outcome}
 use Rattle.refusals.proofs.Checks.{passed-all, refused-first, done-holds}
 use Rattle.parameters.specs.Sets.{ParameterSet, setOf}
 use Rattle.polynomials.specs.Polynomials.{coefficient, reducedQ}
-use Rattle.files.specs.Files.{arraysOf, numberCount, headOf}
+use Rattle.files.specs.Files.{arraysOf, fileNumbers, headOf}
 use Rattle.files.specs.Calls.{setChecks}
 use Rattle.files.proofs.ArraysOfKinds.{sealed-arrays}
 use Rattle.opening.specs.Program.{fileChecks, numbersOf, pairChecks, messageOf}
@@ -21,8 +21,8 @@ use Rattle.opening.proofs.sealed_files.open_sealed_in.Statement.{statem
 use Rattle.opening.proofs.sealed_files.open_sealed_in.Tie as tie
 
 -- the room that is lent
-room : (s : tie.Start) → length (s .args .e .now) ≡ numberCount 3 (s .args .sealed .n)
-unfolding numberCount arraysOf
+room : (s : tie.Start) → length (s .args .e .now) ≡ fileNumbers 3 (s .args .sealed .n)
+unfolding fileNumbers arraysOf
 room s = omega arith
 
 -- the sealed file is read
@@ -30,7 +30,7 @@ sealed-read : (c : tie.After-enum-told) → let s = c .before .before .before .b
 sealed-read c =
     let s = c .before .before .before .before .before .before .before in
     let r = c .before .before .before in
-    file-read 3 (s .args .file .now) (setOf (s .args .sealed)) (s .pre .3) (s .args .e .now) (room s) _ (r .read .ensures .0) _ (c .enum-told .given .1) (r .read .ensures .1)
+    file-read 3 (s .args .file .now) (setOf (s .args .sealed)) (s .pre .3) (s .args .e .now) _ (r .read .ensures .0) _ (c .enum-told .given .1) (r .read .ensures .1)
 
 -- its one array is of remainders
 reduced : (p : ParameterSet) (e : List ℤ) → length e ≡ 2 * p .N → outcome (setChecks p (arraysOf 3) e) (tt {0}) ≡ done (tt {0}) → T (reducedQ (p .N) (p .q) (coefficient e))
@@ -39,7 +39,7 @@ reduced p e l h = done-holds 12 (reducedQ (p .N) (p .q) (coefficient e)) _ _ _ (
 -- what is left to check, and the message
 after-sealed : (p : ParameterSet) (numbers : List ℤ) (sealed : ParameterSet) (file : List ℕ) (e : List ℤ) → Read 3 sealed file e → outcome (pairChecks p numbers sealed) (messageOf p numbers e) ≡ outcome (fileChecks 3 file ++ pairChecks p numbers (headOf file)) (messageOf p numbers (numbersOf file))
 after-sealed p numbers sealed file e r =
-    rw (r .numbers-are, ← r .head) (sym (passed-all (fileChecks 3 file) _ _ (r .checks)))
+    rw (← r .numbers-are, ← r .head) (sym (passed-all (fileChecks 3 file) _ _ (r .checks)))
 
 pub open-sealed-in-spec : {M : Type 1} → statement M
 open-sealed-in-spec =
@@ -63,4 +63,4 @@ open-sealed-in-spec =
     let s = c .before .before .before .before .before .before .before .before in
     let r = c .before .before .before .before in
     let w = c .before .refusal .given in
-    sym (refused-first (fileChecks 3 (s .args .file .now)) _ _ _ (file-refused 3 (s .args .file .now) (setOf (s .args .sealed)) (s .pre .3) (s .args .e .now) (room s) _ (r .read .ensures .0) (w .0 .0) (w .1)))))
+    sym (refused-first (fileChecks 3 (s .args .file .now)) _ _ _ (file-refused 3 (s .args .file .now) (setOf (s .args .sealed)) (s .pre .3) (s .args .e .now) _ (r .read .ensures .0) (room s) (w .0 .0) (w .1)))))

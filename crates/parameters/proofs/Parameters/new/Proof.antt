@@ -3,7 +3,7 @@ use mathlib.Core.Path.{_≡_, sym, _∙_, ap, ap₂}
 use borrow.Author.Needs.{needs}
 use lib.IntN.{ℤ}
 use mir.Facts.{toZ-ofZ}
-use Rattle.refusals.specs.Outcomes.{Outcome, done, refused, outcome}
+use Rattle.refusals.specs.Outcomes.{done, outcome}
 use Rattle.refusals.specs.Numbers.{answered}
 use Rattle.refusals.specs.declared.Answer.{Answer}
 use Rattle.refusals.proofs.Checks.{carried, carried-done, carried-refused, outcome-carried}
