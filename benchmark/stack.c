@@ -20,6 +20,7 @@ static int32_t key[8 * N], numbers[8 * N];
 static uint8_t files[ETRU_PRIVATE_FILE_BYTES(N) + ETRU_SEALED_FILE_BYTES(N)], line[ETRU_LINE_BYTES];
 static size_t line_bytes;
 
+static uint32_t check_parameters(void) { return etru_check_parameters(N, 15, 0, 3, 1); }
 static uint32_t convolve(void) { return etru_convolve(N, 15, 0, 3, 1, one, 2 * N, g, 2 * N, out, 2 * N); }
 static uint32_t check_key(void) { return etru_check_key(N, 15, 0, 3, 1, one, 2 * N, one, 2 * N, one, 2 * N, g, 2 * N, h, 2 * N); }
 static uint32_t seal(void) { return etru_seal(N, 15, 0, 3, 1, h, 2 * N, g, 2 * N, message, N / 4, e, 2 * N); }
@@ -31,6 +32,16 @@ static uint32_t write_sealed(void) { return etru_write(3, N, 15, 0, 3, 1, e, 2 *
 static uint32_t read_private(void) { return etru_read(2, files, ETRU_PRIVATE_FILE_BYTES(N), numbers, 8 * N); }
 static uint32_t open_files(void) { return etru_open_files(files, sizeof files, line, sizeof line, &line_bytes); }
 static uint32_t nothing(void) { return 0; }
+
+static uint32_t reduce_q(void) {
+    int32_t a, b;
+    return etru_reduce_q(INT64_C(1) << 40, -(INT64_C(1) << 40), 4095, -1, &a, &b);
+}
+
+static uint32_t reduce_2(void) {
+    int32_t a, b;
+    return etru_reduce_2(INT64_C(1) << 40, 1, &a, &b);
+}
 
 static uint32_t read_head(void) {
     uint32_t n, s, t;
@@ -70,7 +81,7 @@ int main(void) {
     static const struct {
         const char *name;
         uint32_t (*function)(void);
-    } calls[] = {{"etru_convolve", convolve}, {"etru_check_key", check_key}, {"etru_seal", seal}, {"etru_open", open_sealed}, {"etru_pack", pack}, {"etru_unpack", unpack},
+    } calls[] = {{"etru_reduce_q", reduce_q}, {"etru_reduce_2", reduce_2}, {"etru_check_parameters", check_parameters}, {"etru_convolve", convolve}, {"etru_check_key", check_key}, {"etru_seal", seal}, {"etru_open", open_sealed}, {"etru_pack", pack}, {"etru_unpack", unpack},
                  {"etru_write, 2", write_private}, {"etru_write, 3", write_sealed}, {"etru_read_head", read_head}, {"etru_read, 2", read_private}, {"etru_open_files", open_files}};
     for (size_t i = 0; i < sizeof message; i++) {
         message[i] = (uint8_t)(i * 37);
@@ -83,7 +94,7 @@ int main(void) {
     for (size_t i = 0; i < sizeof calls / sizeof calls[0]; i++) {
         size_t bytes = used(calls[i].function) - base;
         largest = bytes > largest ? bytes : largest;
-        printf("%-15s %6zu bytes of stack\n", calls[i].name, bytes);
+        printf("%-21s %6zu bytes of stack\n", calls[i].name, bytes);
     }
     return memcmp(message, opened, sizeof message) != 0 || memcmp(key, numbers, sizeof key) != 0 || line_bytes != ETRU_LINE_BYTES || largest > 128 * 1024;
 }

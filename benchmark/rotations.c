@@ -1,0 +1,93 @@
+#include "rotations.h"
+
+#include <string.h>
+
+#include "checks.h"
+#include "etru.h"
+
+#define MAX_NUMBERS ETRU_ARRAY_NUMBERS(ETRU_MAX_N)
+
+static void add(size_t count, const int32_t *restrict part, int32_t *restrict sums) {
+    for (size_t k = 0; k < count; k++) {
+        sums[k] += part[k];
+    }
+}
+
+static void subtract(size_t count, const int32_t *restrict part, int32_t *restrict sums) {
+    for (size_t k = 0; k < count; k++) {
+        sums[k] -= part[k];
+    }
+}
+
+// The sum of y's rotations by j over the x_j that are the unit (a, b), less those over the x_j that are −(a, b).
+// In `twice` y stands two times in a row, so that each rotation is one contiguous part of it.
+static void sum_rotations(size_t n, const int32_t *x, const int32_t *twice, int32_t a, int32_t b, int32_t *sums) {
+    memset(sums, 0, 2 * n * sizeof sums[0]);
+    for (size_t j = 0; j < n; j++) {
+        const int32_t *rotation = twice + 2 * (n - j);
+        if (x[2 * j] == a && x[2 * j + 1] == b) {
+            add(2 * n, rotation, sums);
+        } else if (x[2 * j] == -a && x[2 * j + 1] == -b) {
+            subtract(2 * n, rotation, sums);
+        }
+    }
+}
+
+// x × y, where each coefficient of x is zero or a unit.
+static void convolve_units(size_t n, const int32_t *x, const int32_t *y, int32_t *out) {
+    int32_t twice[2 * MAX_NUMBERS], ones[MAX_NUMBERS], omegas[MAX_NUMBERS], squares[MAX_NUMBERS];
+    memcpy(twice, y, 2 * n * sizeof y[0]);
+    memcpy(twice + 2 * n, y, 2 * n * sizeof y[0]);
+    sum_rotations(n, x, twice, 1, 0, ones);
+    sum_rotations(n, x, twice, 0, 1, omegas);
+    sum_rotations(n, x, twice, -1, -1, squares);
+    for (size_t i = 0; i < n; i++) {
+        // A + ωB + ω²C, with ω(a, b) = (−b, a − b) and ω²(a, b) = (b − a, −a)
+        size_t a = 2 * i, b = 2 * i + 1;
+        out[a] = ones[a] - omegas[b] + squares[b] - squares[a];
+        out[b] = ones[b] + omegas[a] - omegas[b] - squares[a];
+    }
+}
+
+uint32_t rotations_seal(const struct parameters *p, const int32_t *h, const int32_t *phi, const uint8_t *message,
+                        int32_t *e) {
+    if (!reduced_modulo_q(p->n, modulus(p), h)) {
+        return ETRU_NOT_REDUCED_MODULO_Q;
+    }
+    if (!units_of_sum_zero(p->n, phi, p->s)) {
+        return ETRU_PHI_NOT_IN_ITS_SET;
+    }
+    if (spare_bit_set(p->n, message)) {
+        return ETRU_SPARE_BIT_SET;
+    }
+    convolve_units(p->n, phi, h, e);
+    for (size_t i = 0; i < p->n; i++) {
+        struct value sum = coefficient(e, i), m = message_coefficient(message, i);
+        set_coefficient(e, i, remainder_modulo_q((struct value){2 * sum.a + m.a, 2 * sum.b + m.b}, modulus(p)));
+    }
+    return ETRU_OK;
+}
+
+uint32_t rotations_open(const struct parameters *p, const int32_t *f, const int32_t *f2, const int32_t *e,
+                        uint8_t *message) {
+    if (!units_only(p->n, f, p->t)) {
+        return ETRU_F_NOT_IN_ITS_SET;
+    }
+    if (!reduced_modulo_2(p->n, f2)) {
+        return ETRU_NOT_REDUCED_MODULO_2;
+    }
+    if (!reduced_modulo_q(p->n, modulus(p), e)) {
+        return ETRU_NOT_REDUCED_MODULO_Q;
+    }
+    int32_t unsealed[MAX_NUMBERS], opened[MAX_NUMBERS];
+    convolve_units(p->n, f, e, unsealed);
+    for (size_t i = 0; i < p->n; i++) {
+        set_coefficient(unsealed, i, remainder_modulo_q(coefficient(unsealed, i), modulus(p)));
+    }
+    convolve_units(p->n, f2, unsealed, opened);
+    memset(message, 0, ETRU_MESSAGE_BYTES(p->n));
+    for (size_t i = 0; i < p->n; i++) {
+        add_message_coefficient(message, i, coefficient(opened, i));
+    }
+    return ETRU_OK;
+}
