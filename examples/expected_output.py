@@ -26,7 +26,7 @@ def accepted(outcome):
 
 
 def example_message(n):
-    length = reference.message_length(n)
+    length = reference.message_bytes(n)
     message = bytearray((0xB0 + 37 * i) % 256 for i in range(length))
     message[-1] &= 256 - 2 ** (8 * length - 2 * n)
     return message
@@ -36,7 +36,7 @@ def main():
     with open(sys.argv[1], "rb") as stream:
         private = stream.read()
     p = accepted(reference.call_read_head(reference.PRIVATE_FILE, private))
-    array, sealed_length = 2 * p.n, reference.file_length(reference.SEALED_FILE, p.n)
+    array, sealed_length = 2 * p.n, reference.file_bytes(reference.SEALED_FILE, p.n)
     numbers = accepted(reference.call_read(reference.PRIVATE_FILE, private, 4 * array))
     f, f2, fq, g = reference.arrays_of(reference.PRIVATE_FILE, p.n, numbers)
     h = accepted(reference.call_check_key(p, f, f2, fq, g, array))

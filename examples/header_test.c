@@ -159,6 +159,11 @@ static void try_limits(void) {
     expect("ETRU_MAX_N", etru_check_parameters(ETRU_MAX_N, 15, 0, 3, 1), ETRU_OK);
     expect("ETRU_MAX_N + 1", etru_check_parameters(ETRU_MAX_N + 1, 15, 0, 3, 1), ETRU_COEFFICIENT_COUNT_OUT_OF_RANGE);
 
+    expect("ETRU_MIN_S", etru_check_parameters(3, 15, 0, ETRU_MIN_S, 1), ETRU_OK);
+    expect("ETRU_MIN_S - 1", etru_check_parameters(3, 15, 0, ETRU_MIN_S - 1, 1), ETRU_S_OUT_OF_RANGE);
+    expect("ETRU_MIN_T", etru_check_parameters(3, 15, 0, 3, ETRU_MIN_T), ETRU_OK);
+    expect("ETRU_MIN_T - 1", etru_check_parameters(3, 15, 0, 3, ETRU_MIN_T - 1), ETRU_T_OUT_OF_RANGE);
+
     int32_t ra, rb;
     for (int sign = -1; sign <= 1; sign += 2) {
         const int32_t part = sign * ETRU_MODULUS_LIMIT, next = sign * (ETRU_MODULUS_LIMIT + 1);

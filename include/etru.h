@@ -17,7 +17,8 @@
 // What a call takes
 //   Nothing is allocated, and there is no global state: calls may run in several threads at once, as long as nobody
 //   changes what is lent to a call, or uses its outputs, before it returns. No call depends on an earlier one.
-//   Stack, at every N: etru_open_files 81 KiB, etru_read 33 KiB, etru_open 17 KiB, each other function below 1 KiB.
+//   Stack, at every N: etru_open_files 105 KiB, etru_open 57 KiB, etru_check_key 49 KiB, etru_seal 41 KiB,
+//   etru_read 33 KiB, each other function below 1 KiB.
 //   Of the C library at most memcmp, memcpy, memmove and memset are needed.
 //
 // What is not promised
@@ -85,9 +86,12 @@ enum etru_file_kind {
     ETRU_SEALED_FILE = 3    // e
 };
 
-// Limits: N is from ETRU_MIN_N to ETRU_MAX_N, and no part of q or of a value is further from 0 than its limit.
+// Limits: N is from ETRU_MIN_N to ETRU_MAX_N, s from ETRU_MIN_S and t from ETRU_MIN_T to N, and no part of q or of a
+// value is further from 0 than its limit.
 #define ETRU_MIN_N 3
 #define ETRU_MAX_N 1024
+#define ETRU_MIN_S 3
+#define ETRU_MIN_T 1
 #define ETRU_MODULUS_LIMIT 4095
 #define ETRU_VALUE_LIMIT ((int64_t)1 << 40)
 

@@ -175,7 +175,7 @@ def reductions(results, library, rng):
         for a in EDGES_64:
             for b in EDGES_64:
                 one_reduction(results, library, rng, (a, b), q)
-    # every value near zero, where ties are met: 15 and 3·(0,27) have ties, (11,86) has none
+    # every value near zero, where ties are met
     for q in [(15, 0), (3, 0), (9, 9), (6, 3)]:
         for a in range(-16, 17):
             for b in range(-16, 17):
@@ -292,7 +292,7 @@ def random_keys(results, library, rng):
             one_call(results, library, rng, "convolve", p, [random_reduced(rng, p), random_reduced(rng, p)], 2 * n, 0)
             # opening what was never sealed, with an F2 that is no inverse
             f2 = reference.array(reference.pack(n, random_message(rng, n, "random")))
-            one_call(results, library, rng, "open", p, [key.f, f2, random_reduced(rng, p)], reference.message_length(n), 0)
+            one_call(results, library, rng, "open", p, [key.f, f2, random_reduced(rng, p)], reference.message_bytes(n), 0)
     for n, q, s, t in LARGE_KEYS:
         key = Key(rng, reference.Parameters(n, q, s, t), 30)
         one_key(results, library, rng, key, ["random"])

@@ -172,7 +172,7 @@ def all_reduced_2(x):
 # ---- Messages: 2N bits in N/4 bytes, rounded up, highest bit first
 
 
-def message_length(n):
+def message_bytes(n):
     return -(-n // 4)
 
 
@@ -192,7 +192,7 @@ def pack(n, message):
 
 def unpack(n, m):
     pairs = [abs(part) for value in m for part in value]
-    pairs += [0] * (8 * message_length(n) - 2 * n)
+    pairs += [0] * (8 * message_bytes(n) - 2 * n)
     return bytes(sum(bit << (7 - place) for place, bit in enumerate(pairs[at : at + 8])) for at in range(0, len(pairs), 8))
 
 
@@ -216,7 +216,7 @@ def lengths_wrong(n, arrays, room=None, message=None):
     if room is not None:
         wrong.append(room != 2 * n)
     if message is not None:
-        wrong.append(message != message_length(n))
+        wrong.append(message != message_bytes(n))
     return any(wrong)
 
 
@@ -329,11 +329,11 @@ KINDS = {
 }
 
 
-def number_count(kind, n):
+def file_numbers(kind, n):
     return 2 * n * len(KINDS[kind])
 
 
-def file_length(kind, n):
+def file_bytes(kind, n):
     return 16 + 4 * n * len(KINDS[kind])
 
 
@@ -363,12 +363,12 @@ def stored_numbers(file, count):
 
 def arrays_of(kind, n, numbers):
     """The numbers of a file, one array after another, as its arrays."""
-    return [numbers[at : at + 2 * n] for at in range(0, number_count(kind, n), 2 * n)]
+    return [numbers[at : at + 2 * n] for at in range(0, file_numbers(kind, n), 2 * n)]
 
 
 def content_checks(kind, p, numbers, count, length):
     """What follows the parameters' checks: the count of the numbers, the length of the file, and its arrays."""
-    lengths = [(7, lambda: count != number_count(kind, p.n) or length != file_length(kind, p.n))]
+    lengths = [(7, lambda: count != file_numbers(kind, p.n) or length != file_bytes(kind, p.n))]
     arrays = arrays_of(kind, p.n, numbers)
     return lengths + [
         (number, lambda applies=applies, array=array: applies(p, coefficients(array)))
@@ -398,7 +398,7 @@ def call_read(kind, file, room):
     number, p = call_read_head(kind, file)
     if number:
         return (number, None)
-    numbers = stored_numbers(file, number_count(kind, p.n))
+    numbers = stored_numbers(file, file_numbers(kind, p.n))
     number = first(content_checks(kind, p, numbers, room, len(file)))
     return (number, None if number else numbers)
 
@@ -420,7 +420,7 @@ def read_file(kind, file):
     number, p = call_read_head(kind, file)
     if number:
         return (number, None, None)
-    number, numbers = call_read(kind, file, number_count(kind, p.n))
+    number, numbers = call_read(kind, file, file_numbers(kind, p.n))
     return (number, p, None if number else arrays_of(kind, p.n, numbers))
 
 
@@ -432,7 +432,7 @@ def open_both(data):
     number, p = call_read_head(PRIVATE_FILE, data)
     if number:
         return (number, None)
-    end = file_length(PRIVATE_FILE, p.n)
+    end = file_bytes(PRIVATE_FILE, p.n)
     number, p, key = read_file(PRIVATE_FILE, data[:end])
     if number:
         return (number, None)
@@ -443,7 +443,7 @@ def open_both(data):
     number = first([(20, lambda: p.numbers() != sealed_p.numbers())] + inverse_checks(p, f, f2, fq))
     if number:
         return (number, None)
-    return call_open(p, f, f2, sealed[0], message_length(p.n))
+    return call_open(p, f, f2, sealed[0], message_bytes(p.n))
 
 
 def open_files(data):
@@ -454,9 +454,9 @@ def open_files(data):
 
 
 # The line's room is not document 01's: the call refuses any other than the longest line's (docs/DECISIONS.md, 34).
-LONGEST_LINE = len("0 ") + 2 * message_length(1024) + len("\n")
+LINE_BYTES = len("0 ") + 2 * message_bytes(1024) + len("\n")
 
 
 def call_open_files(data, room):
-    number = first([(7, lambda: room != LONGEST_LINE)])
+    number = first([(7, lambda: room != LINE_BYTES)])
     return (number, None if number else open_files(data))

@@ -160,7 +160,7 @@ def random_zero_sum(rng, n, s):
 
 def random_message(rng, n, kind):
     """All bits zero, all bits one or random bits; the spare bits are zero."""
-    length = reference.message_length(n)
+    length = reference.message_bytes(n)
     message = [{"zero": 0, "one": 255}.get(kind, rng.randrange(256)) for _ in range(length)]
     message[-1] &= 256 - 2 ** (8 * length - 2 * n)
     return message

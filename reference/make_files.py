@@ -23,7 +23,7 @@ def read_bytes(path):
 
 
 def write_file(path, kind, p, numbers):
-    number, file = reference.call_write(kind, p, numbers, reference.file_length(kind, p.n))
+    number, file = reference.call_write(kind, p, numbers, reference.file_bytes(kind, p.n))
     if number:
         sys.exit(f"{path}: refusal {number}")
     try:
@@ -52,7 +52,7 @@ def message_of(digits, n):
         message = bytes.fromhex(digits)
     except ValueError:
         sys.exit(f"the message is not in hexadecimal, two digits for each byte: {digits}")
-    length = reference.message_length(n)
+    length = reference.message_bytes(n)
     if len(message) != length:
         wanted = f"N = {n} takes a message of {length} bytes ({2 * length} hexadecimal digits)"
         sys.exit(f"{wanted}, but {len(message)} bytes were given")

@@ -1,4 +1,4 @@
-//! How long arrays, messages, files and lines are.
+//! How long arrays, messages, files and lines are, and how large a value's parts.
 //!
 //! Any N may be given, and `usize` may be narrow, so lengths that do not fit stop at the largest
 //! one; no call accepts such an N.
@@ -8,6 +8,13 @@ use crate::Kind;
 /// The longest line of [`open_files`](crate::open_files): `0`, a space, 256 bytes in hexadecimal
 /// and a newline.
 pub const LINE_BYTES: usize = 515;
+
+/// The bytes of a file's head.
+pub const HEAD_BYTES: usize = 16;
+
+/// The largest size of a part of a value for [`reduce_q`](crate::reduce_q) and
+/// [`reduce_2`](crate::reduce_2).
+pub const VALUE_LIMIT: i64 = 1 << 40;
 
 /// The numbers of an array: 2N.
 #[must_use]
@@ -30,7 +37,9 @@ pub const fn file_numbers(kind: Kind, n: u32) -> usize {
 /// The bytes of a file: 16 + 4N, and 16 + 16N for a private one.
 #[must_use]
 pub const fn file_bytes(kind: Kind, n: u32) -> usize {
-    file_numbers(kind, n).saturating_mul(2).saturating_add(16)
+    file_numbers(kind, n)
+        .saturating_mul(2)
+        .saturating_add(HEAD_BYTES)
 }
 
 const fn array_count(kind: Kind) -> usize {

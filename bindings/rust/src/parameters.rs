@@ -29,6 +29,9 @@ impl Parameters {
     /// The largest N.
     pub const MAX_N: u32 = 1024;
 
+    /// The largest size of a part of q.
+    pub const MODULUS_LIMIT: i32 = 4095;
+
     /// The least s. The largest is N.
     pub const MIN_S: u32 = 3;
 

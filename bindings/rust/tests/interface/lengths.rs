@@ -8,6 +8,18 @@ use crate::definitions;
 fn limits_of_parameters() {
     assert_eq!((Parameters::MIN_N, Parameters::MAX_N), (3, 1024));
     assert_eq!((Parameters::MIN_S, Parameters::MIN_T), (3, 1));
+    assert_eq!(Parameters::MODULUS_LIMIT, 4095);
+}
+
+#[test]
+fn limits_of_values() {
+    let (q, limit) = (Parameters::MODULUS_LIMIT, etru::VALUE_LIMIT);
+    assert_eq!(limit, 1_099_511_627_776);
+    for sign in [-1, 1] {
+        assert!(etru::reduce_q(sign * limit, 0, q, 0).is_ok());
+        assert!(etru::reduce_q(sign * limit + sign, 0, q, 0).is_err());
+        assert!(etru::reduce_q(0, 0, q + 1, 0).is_err());
+    }
 }
 
 #[test]
