@@ -8,7 +8,7 @@ use native.Mathlib.Omega.{arith}
 use borrow.Author.Tests.{not-false}
 use lib.Dec.{T, ltb}
 use mir.Facts.{and-yes, ltb-yes}
-use Rattle.refusals.specs.Outcomes.{Check, _if_, Outcome, done, refused, unless, outcome, number, written}
+use Rattle.refusals.specs.Outcomes.{Check, _if_, Outcome, done, refused, unless, outcome, number, written, Gives, Passes}
 
 pub refused-by : {A : Type 0} (n : ℕ) (cs : List Check) (a : A) {t : Bool} → t ≡ true → outcome (n if t ∷ cs) a ≡ refused n
 unfolding outcome
@@ -168,3 +168,15 @@ done-as-written {A} cs a old new t e w =
 
 pub refused-plain : {A : Type 0} (cs : List Check) (a : A) (n : ℕ) → 0 < n → outcome cs a ≡ refused n → outcome cs (tt {0}) ≡ refused n
 refused-plain cs a n l e = refused-by-number (outcome cs (tt {0})) n l (same-number cs (tt {0}) a ∙ ap number e)
+
+-- ---- what a call gives
+
+pub gives-done : {A : Type 0} (cs : List Check) (v old new : A) → Passes cs → new ≡ v → Gives (outcome cs v) 0 old new
+gives-done {A} cs v old new p e =
+    let o = done-with cs v p in
+    (sym (ap number o), e ∙ sym (ap (λ (x : Outcome A). written x old) o))
+
+pub gives-refused : {A : Type 0} (cs : List Check) (v old : A) (n : ℕ) → outcome cs (tt {0}) ≡ refused n → Gives (outcome cs v) n old old
+gives-refused {A} cs v old n e =
+    let o = refused-with cs v n e in
+    (sym (ap number o), sym (ap (λ (x : Outcome A). written x old) o))

@@ -1,54 +1,38 @@
 -- No refusal has the number 0, and each has at most two digits.
+-- That is computed for every variant in the enum's own list of them, so no variant is named here.
 use Prim.Native.Nat.{_<_}
-use lib.Dec.{lit<}
+use mathlib.Core.Path.{subst}
+use mathlib.Core.Bool.{Bool, true, false, _&&_}
+use mathlib.Core.List.{List, [], _∷_}
+use mathlib.Core.Logic.{inl, inr}
+use denote.Struct.Field.{Field}
+use denote.Enum.Declared.{Choice}
+use lib.Dec.{T, ltb}
+use mir.Facts.{and-yes, ltb-yes}
 use Rattle.refusals.specs.Numbers.{numberOf}
 use Rattle.refusals.specs.declared.Refusal.{Refusal}
-use Rattle.refusals.specs.declared.Refusal.the-variants.{CoefficientCountOutOfRange, ModulusPartOutOfRange, ModulusPartsBothEven, SOutOfRange, TOutOfRange, BoundNotBelowNorm, WrongLength, FNotInItsSet, GNotInItsSet, PhiNotInItsSet, NotReducedModulo2, NotReducedModuloQ, NotInverseModulo2, NotInverseModuloQ, SpareBitSet, HeadTooShort, MarkNotEiz, VersionNotOne, KindNotWanted, ParametersDiffer, ModulusZero, ValueOutOfRange}
+use Rattle.refusals.proofs.Refusal as variants
+
+-- A test holds of every variant, where none has fields.
+abbrev every : (parts : List (List Field)) → (Choice parts → Bool) → Bool
+every [] test = true
+every ([] ∷ parts) test = test (inl tt) && every parts (λ c. test (inr c))
+every ((field ∷ fields) ∷ parts) test = false
+
+each : (parts : List (List Field)) (test : Choice parts → Bool) → T (every parts test) → (c : Choice parts) → T (test c)
+each [] test all c = absurd c
+each ([] ∷ parts) test all (inl tt) = and-yes (test (inl tt)) (every parts (λ c. test (inr c))) all .0
+each ([] ∷ parts) test all (inr c) = each parts (λ c. test (inr c)) (and-yes (test (inl tt)) (every parts (λ c. test (inr c))) all .1) c
+each ((field ∷ fields) ∷ parts) test all c = absurd all
+
+abbrev inRange : Refusal → Bool
+inRange r = ltb 0 (numberOf r) && ltb (numberOf r) 100
+
+in-range : (r : Refusal) → T (inRange r)
+in-range r = subst (λ (r : Refusal). T (inRange r)) (variants.eta r) (each variants.parts (λ c. inRange (variants.make c)) tt (variants.as-values r))
 
 pub number-positive : (r : Refusal) → 0 < numberOf r
-number-positive CoefficientCountOutOfRange = lit< tt
-number-positive ModulusPartOutOfRange = lit< tt
-number-positive ModulusPartsBothEven = lit< tt
-number-positive SOutOfRange = lit< tt
-number-positive TOutOfRange = lit< tt
-number-positive BoundNotBelowNorm = lit< tt
-number-positive WrongLength = lit< tt
-number-positive FNotInItsSet = lit< tt
-number-positive GNotInItsSet = lit< tt
-number-positive PhiNotInItsSet = lit< tt
-number-positive NotReducedModulo2 = lit< tt
-number-positive NotReducedModuloQ = lit< tt
-number-positive NotInverseModulo2 = lit< tt
-number-positive NotInverseModuloQ = lit< tt
-number-positive SpareBitSet = lit< tt
-number-positive HeadTooShort = lit< tt
-number-positive MarkNotEiz = lit< tt
-number-positive VersionNotOne = lit< tt
-number-positive KindNotWanted = lit< tt
-number-positive ParametersDiffer = lit< tt
-number-positive ModulusZero = lit< tt
-number-positive ValueOutOfRange = lit< tt
+number-positive r = ltb-yes (and-yes (ltb 0 (numberOf r)) (ltb (numberOf r) 100) (in-range r) .0)
 
 pub two-digits : (r : Refusal) → numberOf r < 100
-two-digits CoefficientCountOutOfRange = lit< tt
-two-digits ModulusPartOutOfRange = lit< tt
-two-digits ModulusPartsBothEven = lit< tt
-two-digits SOutOfRange = lit< tt
-two-digits TOutOfRange = lit< tt
-two-digits BoundNotBelowNorm = lit< tt
-two-digits WrongLength = lit< tt
-two-digits FNotInItsSet = lit< tt
-two-digits GNotInItsSet = lit< tt
-two-digits PhiNotInItsSet = lit< tt
-two-digits NotReducedModulo2 = lit< tt
-two-digits NotReducedModuloQ = lit< tt
-two-digits NotInverseModulo2 = lit< tt
-two-digits NotInverseModuloQ = lit< tt
-two-digits SpareBitSet = lit< tt
-two-digits HeadTooShort = lit< tt
-two-digits MarkNotEiz = lit< tt
-two-digits VersionNotOne = lit< tt
-two-digits KindNotWanted = lit< tt
-two-digits ParametersDiffer = lit< tt
-two-digits ModulusZero = lit< tt
-two-digits ValueOutOfRange = lit< tt
+two-digits r = ltb-yes (and-yes (ltb 0 (numberOf r)) (ltb (numberOf r) 100) (in-range r) .1)

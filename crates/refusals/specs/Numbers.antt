@@ -4,31 +4,30 @@ use Rattle.refusals.specs.Outcomes.{Outcome, done, refused}
 use Rattle.refusals.specs.declared.Answer.{Answer}
 use Rattle.refusals.specs.declared.Answer.the-variants.{Done, Refused}
 use Rattle.refusals.specs.declared.Refusal.{Refusal}
-use Rattle.refusals.specs.declared.Refusal.the-variants.{CoefficientCountOutOfRange, ModulusPartOutOfRange, ModulusPartsBothEven, SOutOfRange, TOutOfRange, BoundNotBelowNorm, WrongLength, FNotInItsSet, GNotInItsSet, PhiNotInItsSet, NotReducedModulo2, NotReducedModuloQ, NotInverseModulo2, NotInverseModuloQ, SpareBitSet, HeadTooShort, MarkNotEiz, VersionNotOne, KindNotWanted, ParametersDiffer, ModulusZero, ValueOutOfRange}
 
 abbrev pub numberOf : Refusal → ℕ
-numberOf CoefficientCountOutOfRange = 1
-numberOf ModulusPartOutOfRange = 2
-numberOf ModulusPartsBothEven = 3
-numberOf SOutOfRange = 4
-numberOf TOutOfRange = 5
-numberOf BoundNotBelowNorm = 6
-numberOf WrongLength = 7
-numberOf FNotInItsSet = 8
-numberOf GNotInItsSet = 9
-numberOf PhiNotInItsSet = 10
-numberOf NotReducedModulo2 = 11
-numberOf NotReducedModuloQ = 12
-numberOf NotInverseModulo2 = 13
-numberOf NotInverseModuloQ = 14
-numberOf SpareBitSet = 15
-numberOf HeadTooShort = 16
-numberOf MarkNotEiz = 17
-numberOf VersionNotOne = 18
-numberOf KindNotWanted = 19
-numberOf ParametersDiffer = 20
-numberOf ModulusZero = 21
-numberOf ValueOutOfRange = 22
+numberOf Refusal.CoefficientCountOutOfRange = 1
+numberOf Refusal.ModulusPartOutOfRange = 2
+numberOf Refusal.ModulusPartsBothEven = 3
+numberOf Refusal.SOutOfRange = 4
+numberOf Refusal.TOutOfRange = 5
+numberOf Refusal.BoundNotBelowNorm = 6
+numberOf Refusal.WrongLength = 7
+numberOf Refusal.FNotInItsSet = 8
+numberOf Refusal.GNotInItsSet = 9
+numberOf Refusal.PhiNotInItsSet = 10
+numberOf Refusal.NotReducedModulo2 = 11
+numberOf Refusal.NotReducedModuloQ = 12
+numberOf Refusal.NotInverseModulo2 = 13
+numberOf Refusal.NotInverseModuloQ = 14
+numberOf Refusal.SpareBitSet = 15
+numberOf Refusal.HeadTooShort = 16
+numberOf Refusal.MarkNotEiz = 17
+numberOf Refusal.VersionNotOne = 18
+numberOf Refusal.KindNotWanted = 19
+numberOf Refusal.ParametersDiffer = 20
+numberOf Refusal.ModulusZero = 21
+numberOf Refusal.ValueOutOfRange = 22
 
 -- An answer that carries no value, as an outcome.
 abbrev pub answered : Answer → Outcome (Unit {0})

@@ -1,4 +1,5 @@
 -- What a call gives: a value, or the number of the first refusal that applies.
+use mathlib.Core.Path.{_≡_}
 use mathlib.Core.Bool.{Bool, true, false}
 use mathlib.Core.List.{List, [], _∷_}
 use Prim.Native.Nat.{ℕ}
@@ -34,3 +35,11 @@ number (refused n) = n
 abbrev pub written : {A : Type 0} → Outcome A → A → A
 written (done a) old = a
 written (refused n) old = old
+
+-- A call that returned this number, and left `new` in an output that held `old`, has given this outcome.
+abbrev pub Gives : {A : Type 0} → Outcome A → ℕ → (old new : A) → Type 0
+Gives o n old new = (n ≡ number o) × (new ≡ written o old)
+
+-- No check of the list applies.
+abbrev pub Passes : List Check → Type 0
+Passes checks = outcome checks (tt {0}) ≡ done (tt {0})

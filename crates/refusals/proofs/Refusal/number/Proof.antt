@@ -1,56 +1,40 @@
 -- `Refusal::number` gives each variant the number that `numberOf` does: of each arm the variant is known.
+-- A variant has one line, the same for all: that its arm knows it, and that its number is returned.
 -- Assumes nothing.
-use mathlib.Core.Path.{sym, ap}
-use borrow.Author.Needs.{needs}
+use mathlib.Core.Path.{_≡_, ap}
+use native.Mathlib.Omega.{arith}
 use Rattle.refusals.specs.Numbers.{numberOf}
+use Rattle.refusals.specs.declared.Refusal.{Refusal}
 use Rattle.refusals.proofs.Refusal.number.Statement.{statement}
 use Rattle.refusals.proofs.Refusal.number.Tie as tie
+
+number-known : (r s : Refusal) → r ≡ s → numberOf r ≡ numberOf s
+number-known r s e = ap numberOf e
 
 pub number-spec : {M : Type 1} → statement M
 number-spec =
     tie.close
     (tie.spec
-    (λ c. search needs)
-    (λ c. search needs)
-    (λ c. search needs)
-    (λ c. search needs)
-    (λ c. search needs)
-    (λ c. search needs)
-    (λ c. search needs)
-    (λ c. search needs)
-    (λ c. search needs)
-    (λ c. search needs)
-    (λ c. search needs)
-    (λ c. search needs)
-    (λ c. search needs)
-    (λ c. search needs)
-    (λ c. search needs)
-    (λ c. search needs)
-    (λ c. search needs)
-    (λ c. search needs)
-    (λ c. search needs)
-    (λ c. search needs)
-    (λ c. search needs)
-    (λ c. search needs)
-    (λ c. sym (ap numberOf (c .enum-told .given .1)))
-    (λ c. sym (ap numberOf (c .enum-told2 .given .1)))
-    (λ c. sym (ap numberOf (c .enum-told3 .given .1)))
-    (λ c. sym (ap numberOf (c .enum-told4 .given .1)))
-    (λ c. sym (ap numberOf (c .enum-told5 .given .1)))
-    (λ c. sym (ap numberOf (c .enum-told6 .given .1)))
-    (λ c. sym (ap numberOf (c .enum-told7 .given .1)))
-    (λ c. sym (ap numberOf (c .enum-told8 .given .1)))
-    (λ c. sym (ap numberOf (c .enum-told9 .given .1)))
-    (λ c. sym (ap numberOf (c .enum-told10 .given .1)))
-    (λ c. sym (ap numberOf (c .enum-told11 .given .1)))
-    (λ c. sym (ap numberOf (c .enum-told12 .given .1)))
-    (λ c. sym (ap numberOf (c .enum-told13 .given .1)))
-    (λ c. sym (ap numberOf (c .enum-told14 .given .1)))
-    (λ c. sym (ap numberOf (c .enum-told15 .given .1)))
-    (λ c. sym (ap numberOf (c .enum-told16 .given .1)))
-    (λ c. sym (ap numberOf (c .enum-told17 .given .1)))
-    (λ c. sym (ap numberOf (c .enum-told18 .given .1)))
-    (λ c. sym (ap numberOf (c .enum-told19 .given .1)))
-    (λ c. sym (ap numberOf (c .enum-told20 .given .1)))
-    (λ c. sym (ap numberOf (c .enum-told21 .given .1)))
-    (λ c. sym (ap numberOf (c .enum-told22 .given .1))))
+    (omega (arith, number-known)) (omega (arith, number-known))
+    (omega (arith, number-known)) (omega (arith, number-known))
+    (omega (arith, number-known)) (omega (arith, number-known))
+    (omega (arith, number-known)) (omega (arith, number-known))
+    (omega (arith, number-known)) (omega (arith, number-known))
+    (omega (arith, number-known)) (omega (arith, number-known))
+    (omega (arith, number-known)) (omega (arith, number-known))
+    (omega (arith, number-known)) (omega (arith, number-known))
+    (omega (arith, number-known)) (omega (arith, number-known))
+    (omega (arith, number-known)) (omega (arith, number-known))
+    (omega (arith, number-known)) (omega (arith, number-known))
+    (omega (arith, number-known)) (omega (arith, number-known))
+    (omega (arith, number-known)) (omega (arith, number-known))
+    (omega (arith, number-known)) (omega (arith, number-known))
+    (omega (arith, number-known)) (omega (arith, number-known))
+    (omega (arith, number-known)) (omega (arith, number-known))
+    (omega (arith, number-known)) (omega (arith, number-known))
+    (omega (arith, number-known)) (omega (arith, number-known))
+    (omega (arith, number-known)) (omega (arith, number-known))
+    (omega (arith, number-known)) (omega (arith, number-known))
+    (omega (arith, number-known)) (omega (arith, number-known))
+    (omega (arith, number-known)) (omega (arith, number-known))
+    )
