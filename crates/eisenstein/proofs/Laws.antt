@@ -1,5 +1,5 @@
 -- The laws of the ring Z[ω] and of classes modulo q.
-use mathlib.Core.Path.{_≡_, sym, _∙_, ap}
+use mathlib.Core.Path.{_≡_, sym, _∙_, ap, subst}
 use Rattle.eisenstein.specs.Values.{ℤ[ω], 𝟘, _+ω_, _-ω_, _*ω_, Congruent}
 use Rattle.eisenstein.proofs.Solver.{ringω, _≐_, _⊞_, _⊟_, _⊠_, conω}
 
@@ -44,6 +44,10 @@ plus-minus = ringω 2 (λ x y. (x ⊞ y) ⊟ y ≐ x) tt
 pub congruent-refl : (q x : ℤ[ω]) → Congruent q x x
 congruent-refl q x =
     record { quotient = 𝟘; equation = sym (ap (λ (y : ℤ[ω]). x +ω y) (*ω-zero q) ∙ +ω-zero x) }
+
+-- a congruence as an equation gives it
+pub of-equal : {q x y : ℤ[ω]} → x ≡ y → Congruent q x y
+of-equal {q} {x} e = subst (Congruent q x) e (congruent-refl q x)
 
 sym-step : (q x z : ℤ[ω]) → x ≡ (x +ω q *ω z) +ω q *ω (𝟘 -ω z)
 unfolding _+ω_ _-ω_ _*ω_

@@ -1,4 +1,4 @@
--- The remainder modulo q: `modQ` computes it, it is the only one, and small values are their own.
+-- The remainder modulo q: `modQ` computes it, it is the only one and that of its whole class, and small values are their own.
 use mathlib.Core.Path.{_≡_, sym, _∙_, ap, ap₂, subst}
 use mathlib.Core.Logic.{_≢_}
 use Prim.Native.Nat.{ℕ, _*_, _^_, _≤_, _<_}
@@ -14,7 +14,7 @@ use Rattle.eisenstein.specs.Values.{ℤ[ω], value, 𝟘, _+ω_, _-ω_, 
 use Rattle.eisenstein.specs.Reduction.{AsGood, smaller-norm, Remainder, conj, cell, corner, modQ}
 use Rattle.eisenstein.specs.Promises.{ModQ-is-remainder, Remainder-unique, Remainder-norm, Small-is-remainder}
 use Rattle.eisenstein.proofs.Solver.{ringω, parts, _≐_, _⊞_, _⊟_, _⊠_}
-use Rattle.eisenstein.proofs.Laws.{less-multiple, in-class-is, congruent-refl, *ω-zero, +ω-zero}
+use Rattle.eisenstein.proofs.Laws.{less-multiple, in-class-is, congruent-refl, congruent-sym, congruent-trans, *ω-zero, +ω-zero}
 use Rattle.eisenstein.proofs.Norms.{form, norm-form, norm-*, norm-conj, norm-zero, norm-bound, part-a, part-b, parallelogram}
 use Rattle.eisenstein.proofs.TieRule.{as-good-norm, as-good-refl, as-good-trans, as-good-antisym, best-good, best-ind}
 use Rattle.eisenstein.proofs.Cover.{Corner, c00, c10, c01, c11, offset, Near, some-near, IsCorner, only-corners}
@@ -135,6 +135,22 @@ modQ-is-remainder q x h = record { in-class = modQ-in-class q x h; as-good = riv
 
 pub remainder-unique : Remainder-unique
 remainder-unique q x r s h k = as-good-antisym (h .as-good s (k .in-class)) (k .as-good r (h .in-class))
+
+-- the values of a class have the same remainder
+pub remainder-of-class : (q x y r : ℤ[ω]) → Congruent q x y → Remainder q y r → Remainder q x r
+remainder-of-class q x y r c h = record {
+  in-class = congruent-trans c (h .in-class);
+  as-good = λ s d. h .as-good s (congruent-trans (congruent-sym c) d);
+}
+
+pub modQ-by-class : (q x r : ℤ[ω]) → q ≢ 𝟘 → Congruent q x r → Remainder q r r → modQ q x ≡ r
+modQ-by-class q x r n c h = remainder-unique q x (modQ q x) r (modQ-is-remainder q x n) (remainder-of-class q x r r c h)
+
+-- a remainder is its own
+pub modQ-twice : (q x : ℤ[ω]) → q ≢ 𝟘 → modQ q (modQ q x) ≡ modQ q x
+modQ-twice q x n =
+    let h = modQ-is-remainder q x n in
+    modQ-by-class q (modQ q x) (modQ q x) n (congruent-refl q (modQ q x)) (remainder-of-class q (modQ q x) x (modQ q x) (congruent-sym (h .in-class)) h)
 
 pub remainder-norm : Remainder-norm
 remainder-norm q x r h k =

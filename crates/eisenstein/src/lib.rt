@@ -7,6 +7,7 @@ ghost use Prim.Native.Nat.{_≤_, _<_, _%_, _^_};
 ghost use lib.Dec.{ltb, eqb};
 ghost use lib.IntN.{pos, natAbs, _+ℤ_, _-ℤ_};
 ghost use lib.Signed.{_<ℤ_, ltZ, leZ, shrZ};
+ghost use Rattle.refusals.specs.Outcomes.{written};
 ghost use Rattle.eisenstein.specs.Values.{value, 𝟘, norm, unit, same};
 ghost use Rattle.eisenstein.specs.Reduction.{better, best, corner, modQ, mod2, bit};
 ghost use Rattle.eisenstein.specs.Calls.{beyond, reduceQ, reduce2, answered};
@@ -192,7 +193,7 @@ pub fn odd(x: i64) -> bool
 }
 
 // The remainder of (a, b) modulo 2.
-fn remainder_2(a: i64, b: i64) -> Pair
+pub fn remainder_2(a: i64, b: i64) -> Pair
     ensures { λ r. ⌜ value (r .a) (r .b) ≡ mod2 (value a b) ⌝ }
 {
     if odd(a) {
@@ -307,6 +308,16 @@ pub fn reduce_q(a: i64, b: i64, c: i32, d: i32) -> Reduced
         a: ra as i32,
         b: rb as i32,
     })
+}
+
+// The remainder of (a, b) modulo q = (c, d), and zero where `reduce_q` refuses.
+pub fn remainder_q(a: i64, b: i64, c: i32, d: i32) -> Pair
+    ensures { λ r. ⌜ value (r .a) (r .b) ≡ written (reduceQ (value c d) (value a b)) 𝟘 ⌝ }
+{
+    match reduce_q(a, b, c, d) {
+        Reduced::Remainder(r) => r,
+        Reduced::Refused(_) => Pair { a: 0, b: 0 },
+    }
 }
 
 // One value (a, b) modulo 2: refusal 22, or the remainder.

@@ -6,4 +6,5 @@ pub mod Eisenstein
 pub mod Bounds
 pub mod Arrays
 pub mod Members
+pub mod Congruences
 pub mod Promises

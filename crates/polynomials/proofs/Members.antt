@@ -3,20 +3,21 @@ use mathlib.Core.Path.{_≡_, refl, sym, _∙_, ap, subst}
 use mathlib.Core.Bool.{Bool, true, false, not, cond, _&&_, _||_}
 use mathlib.Core.List.{List, [], _∷_}
 use mathlib.Core.Logic.{⊎-elim}
-use Prim.Native.Nat.{ℕ, zero, suc, _+_, _-_, _*_, _%_, _<_}
+use Prim.Native.Nat.{ℕ, zero, suc, _*_, _<_}
 use native.Mathlib.Omega.{arith}
 use native.Mathlib.Decide.{ℕ-discrete}
-use native.Mathlib.Nat.{one-mul, zero-mul, mod-lt}
+use native.Mathlib.Nat.{one-mul, zero-mul}
 use borrow.Author.Tests.{not-false}
 use lib.Dec.{T, eqb, eqb→eq, leb, leb→le}
 use mir.Facts.{and-yes, yes-and, or-yes}
 use Rattle.eisenstein.specs.Values.{ℤ[ω], 𝟘, units, norm, _*ω_, same, sameℤ}
 use Rattle.eisenstein.specs.Reduction.{modQ, mod2, bit}
-use Rattle.eisenstein.proofs.Equality.{same-yes}
+use Rattle.eisenstein.proofs.Equality.{same-yes, same-true}
 use Rattle.eisenstein.proofs.Modulo2.{by-bits, mod2-by-bits}
 use Rattle.polynomials.specs.Polynomials.{Polynomial, all, count, nonzero, among, unitsOnly, unitsOfSumZero, reducedQ, reduced2, sum, convolution}
+use Rattle.polynomials.proofs.Rings.{Group}
 use Rattle.polynomials.proofs.Sums.{total}
-use Rattle.polynomials.proofs.Convolutions.{conv-single}
+use Rattle.polynomials.proofs.Convolutions.{conv, conv-single}
 use Rattle.polynomials.proofs.Cyclic.{cyclic}
 use Rattle.polynomials.proofs.Eisenstein.{ring, convolution-is}
 use Rattle.polynomials.proofs.Bounds.{Within, within-zero, within-mul, within-total}
@@ -107,6 +108,14 @@ pub reduced2-at : (N : ℕ) (x : Polynomial) → T (reduced2 N x) → (i : ℕ) 
 unfolding reduced2
 reduced2-at N x h i l = same-yes (mod2 (x i)) (x i) (all-at N (λ i. same (mod2 (x i)) (x i)) h i l)
 
+pub at-reducedQ : (N : ℕ) (q : ℤ[ω]) (x : Polynomial) → ((i : ℕ) → i < N → modQ q (x i) ≡ x i) → T (reducedQ N q x)
+unfolding reducedQ
+at-reducedQ N q x h = at-all N (λ i. same (modQ q (x i)) (x i)) (λ i l. subst T (sym (same-true (h i l))) tt)
+
+pub at-reduced2 : (N : ℕ) (x : Polynomial) → ((i : ℕ) → i < N → mod2 (x i) ≡ x i) → T (reduced2 N x)
+unfolding reduced2
+at-reduced2 N x h = at-all N (λ i. same (mod2 (x i)) (x i)) (λ i l. subst T (sym (same-true (h i l))) tt)
+
 pub mod2-within : (x : ℤ[ω]) → Within 1 (mod2 x)
 mod2-within x = subst (Within 1) (sym (mod2-by-bits x)) (go (eqb (bit (x .a)) 1) (eqb (bit (x .b)) 1))
   where
@@ -126,21 +135,27 @@ mod2-unit x = subst (λ (y : ℤ[ω]). T (not (nonzero y) || among units y)) (sy
 pub reduced2-within : (N : ℕ) (x : Polynomial) → T (reduced2 N x) → (i : ℕ) → i < N → Within 1 (x i)
 reduced2-within N x h i l = subst (Within 1) (reduced2-at N x h i l) (mod2-within (x i))
 
--- ---- a product with t units
+-- ---- a product with t units, over any group of indices
+
+module _ {n : ℕ} (G : Group n) where
+  open Group G using (over, over-closed)
+
+  pub conv-within : (t b : ℕ) (x y : Polynomial) → T (unitsOnly n t x) → ((k : ℕ) → k < n → Within b (y k)) → (i : ℕ) → i < n → Within (t * b) (conv ring G x y i)
+  conv-within t b x y h k i l =
+      subst (Within (t * b)) (sym (conv-single ring G x y i l))
+      (subst (λ (m : ℕ). Within (m * b) (total ring n terms)) (units-count n t x h) (within-total n b (λ j. nonzero (x j)) terms term))
+    where
+      terms : ℕ → ℤ[ω]
+      terms j = x j *ω y (over j i)
+
+      scaled : (c : Bool) → cond c 1 0 * b ≡ cond c b 0
+      scaled true = one-mul b
+      scaled false = zero-mul b
+
+      term : (j : ℕ) → j < n → Within (cond (nonzero (x j)) b 0) (x j *ω y (over j i))
+      term j m =
+          subst (λ (w : ℕ). Within w (x j *ω y (over j i))) (scaled (nonzero (x j)))
+          (within-mul (cond (nonzero (x j)) 1 0) b (unit-or-zero n t x h j m) (k (over j i) (over-closed m l)))
 
 pub convolution-within : (N t b : ℕ) (x y : Polynomial) → T (unitsOnly N t x) → ((k : ℕ) → k < N → Within b (y k)) → (i : ℕ) → i < N → Within (t * b) (convolution N x y i)
-convolution-within N t b x y h k i l =
-    subst (Within (t * b)) (sym (convolution-is N x y i ∙ conv-single ring (cyclic N) x y i l))
-    (subst (λ (m : ℕ). Within (m * b) (total ring N terms)) (units-count N t x h) (within-total N b (λ j. nonzero (x j)) terms term))
-  where
-    terms : ℕ → ℤ[ω]
-    terms j = x j *ω y ((i + (N - j)) % N)
-
-    scaled : (c : Bool) → cond c 1 0 * b ≡ cond c b 0
-    scaled true = one-mul b
-    scaled false = zero-mul b
-
-    term : (j : ℕ) → j < N → Within (cond (nonzero (x j)) b 0) (x j *ω y ((i + (N - j)) % N))
-    term j m =
-        subst (λ (w : ℕ). Within w (x j *ω y ((i + (N - j)) % N))) (scaled (nonzero (x j)))
-        (within-mul (cond (nonzero (x j)) 1 0) b (unit-or-zero N t x h j m) (k ((i + (N - j)) % N) (mod-lt (i + (N - j)) (omega arith))))
+convolution-within N t b x y h k i l = subst (Within (t * b)) (sym (convolution-is N x y i)) (conv-within (cyclic N) t b x y h k i l)

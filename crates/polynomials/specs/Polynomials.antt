@@ -50,8 +50,11 @@ unfoldable pub among : List ℤ[ω] → ℤ[ω] → Bool
 among [] x = false
 among (u ∷ us) x = same x u || among us x
 
+abbrev pub zerosAndUnits : ℕ → Polynomial → Bool
+zerosAndUnits N x = all N (λ i. not (nonzero (x i)) || among units (x i))
+
 unfoldable pub unitsOnly : ℕ → ℕ → Polynomial → Bool
-unitsOnly N t x = eqb (count N (λ i. nonzero (x i))) t && all N (λ i. not (nonzero (x i)) || among units (x i))
+unitsOnly N t x = eqb (count N (λ i. nonzero (x i))) t && zerosAndUnits N x
 
 -- "exactly s nonzero coefficients, each a unit, whose sum is zero"
 unfoldable pub unitsOfSumZero : ℕ → ℕ → Polynomial → Bool
