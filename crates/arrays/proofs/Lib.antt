@@ -1,0 +1,4 @@
+pub mod Scans
+pub mod Changing
+pub mod Sizes
+pub mod ArrayChecks

@@ -1,0 +1,55 @@
+-- Loops over every index: `all` from the tests that were made, `sum` from the terms that were added.
+use mathlib.Core.Path.{_≡_, refl, sym, _∙_, ap, ap₂}
+use mathlib.Core.Bool.{Bool, true, false, _&&_}
+use Prim.Native.Nat.{ℕ, zero, suc, _+_, _≤_, _<_}
+use native.Mathlib.Omega.{arith}
+use native.Mathlib.Decide.{ℕ-discrete}
+use native.Mathlib.Numerals.{add-one}
+use Rattle.eisenstein.specs.Values.{𝟘, _+ω_}
+use Rattle.polynomials.specs.Polynomials.{Polynomial, sum, all}
+
+pub all-same : (n : ℕ) {t u : ℕ → Bool} → ((i : ℕ) → i < n → t i ≡ u i) → all n t ≡ all n u
+unfolding all
+all-same zero h = refl
+all-same (suc n) h = ap₂ _&&_ (all-same n (λ i p. h i (omega arith))) (h n (omega arith))
+
+all-fails : (n i : ℕ) (t : ℕ → Bool) → i < n → t i ≡ false → all n t ≡ false
+unfolding all
+all-fails zero i t l e = absurd (omega arith)
+all-fails (suc n) i t l e = go (ℕ-discrete i n) (all-fails n i t)
+  where
+    and-false : (p : Bool) → (p && false) ≡ false
+    and-false true = refl
+    and-false false = refl
+
+    go : Dec (i ≡ n) → (i < n → t i ≡ false → all n t ≡ false) → (all n t && t n) ≡ false
+    go (yes q) r = ap (λ (p : Bool). all n t && p) (ap t (sym q) ∙ e) ∙ and-false (all n t)
+    go (no q) r = ap (λ (p : Bool). p && t n) (r (omega arith) e)
+
+-- a loop over the tests below n: the first i have passed
+pub record Scanned (t : ℕ → Bool) (n i : ℕ) : Type 0 where
+  pub inside : i ≤ n
+  pub passed : all i t ≡ true
+
+module _ {t : ℕ → Bool} {n : ℕ} where
+  pub scan-none : Scanned t n 0
+  unfolding all
+  scan-none = record { inside = omega arith; passed = refl }
+
+  pub scan-more : {i : ℕ} → Scanned t n i → i < n → t i ≡ true → Scanned t n (i + 1)
+  unfolding all
+  scan-more {i} h p e = record { inside = omega arith; passed = ap (λ (n : ℕ). all n t) (add-one i) ∙ ap₂ _&&_ (h .passed) e }
+
+  pub scan-fails : {i : ℕ} → Scanned t n i → i < n → t i ≡ false → false ≡ all n t
+  scan-fails {i} h p e = sym (all-fails n i t p e)
+
+  pub scan-all : {i : ℕ} → Scanned t n i → n ≤ i → true ≡ all n t
+  scan-all {i} h p = sym (h .passed) ∙ ap (λ (k : ℕ). all k t) (omega arith)
+
+pub sum-none : (x : Polynomial) → 𝟘 ≡ sum 0 x
+unfolding sum
+sum-none x = refl
+
+pub sum-more : (x : Polynomial) (i : ℕ) → sum (i + 1) x ≡ sum i x +ω x i
+unfolding sum
+sum-more x i = ap (λ (n : ℕ). sum n x) (add-one i)

@@ -1,0 +1,53 @@
+-- `in_set` meets its contract.
+use mathlib.Core.Path.{sym, _∙_, ap}
+use mathlib.Core.Bool.{Bool}
+use borrow.Author.Needs.{needs}
+use Rattle.eisenstein.specs.Values.{ℤ[ω]}
+use Rattle.eisenstein.proofs.Pairs.{pair-read}
+use Rattle.parameters.specs.Sets.{setOf}
+use Rattle.parameters.proofs.AcceptedParameters.{Accepted, accepted-parameters, modulus-nonzero}
+use Rattle.polynomials.specs.Polynomials.{coefficient, reducedQ}
+use Rattle.arrays.specs.Arrays.{inSet}
+use Rattle.arrays.specs.declared.ArraySet.{ArraySet}
+use Rattle.arrays.proofs.Sizes.{modulus-in-range, modulus-not-zero}
+use Rattle.arrays.proofs.sets.in_set.Statement.{statement}
+use Rattle.arrays.proofs.sets.in_set.Tie as tie
+
+abbrev tested : tie.Start → ArraySet → Bool
+tested s a = inSet (setOf (s .args .p)) a (s .args .x .now)
+
+accepted : (s : tie.Start) → Accepted (setOf (s .args .p))
+accepted s = accepted-parameters (setOf (s .args .p)) (s .pre .0)
+
+pub in-set-spec : {M : Type 1} → statement M
+in-set-spec =
+    tie.close
+    (tie.spec
+    (λ c. search needs)
+    (λ c. search needs)
+    (λ c. search needs)
+    (λ c κs. search needs)
+    (λ c. search needs)
+    (λ c. search needs)
+    (λ c. search needs)
+    (λ c κs. search needs)
+    (λ c. search needs)
+    (λ c. search needs)
+    (λ c. search needs)
+    (λ c κs. search needs)
+    (λ c. search needs)
+    (λ c. search needs)
+    (λ c κs. search needs)
+    (λ c. search needs)
+    (λ c. search needs)
+    (λ c κs.
+    let s = c .before .before .before .before in
+    let a = accepted s in
+    (a .N-small, s .pre .1, modulus-in-range (search needs) (search needs) (a .q-small), modulus-not-zero (search needs) (search needs) (modulus-nonzero (setOf (s .args .p)) a)))
+    (λ c. c .units-only .ensures ∙ sym (ap (tested (c .before .before .before .before .before)) (c .before .enum-told .given .1)))
+    (λ c. c .units-of-sum-zero .ensures ∙ sym (ap (tested (c .before .before .before .before .before)) (c .before .enum-told2 .given .1)))
+    (λ c. c .units-of-sum-zero2 .ensures ∙ sym (ap (tested (c .before .before .before .before .before)) (c .before .enum-told3 .given .1)))
+    (λ c. c .all-reduced-modulo-2 .ensures ∙ sym (ap (tested (c .before .before .before .before .before)) (c .before .enum-told4 .given .1)))
+    (λ c.
+    let s = c .before .before .before .before .before in
+    c .all-reduced-modulo-q .ensures ∙ ap (λ (q : ℤ[ω]). reducedQ (s .args .p .n) q (coefficient (s .args .x .now))) (pair-read (search needs) (search needs)) ∙ sym (ap (tested s) (c .before .enum-told5 .given .1))))
