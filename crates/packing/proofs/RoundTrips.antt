@@ -16,30 +16,29 @@ use Rattle.refusals.specs.Outcomes.{done}
 use Rattle.refusals.proofs.Checks.{passed, holds-passed, none-left, done-passed, done-holds, done-value}
 use Rattle.parameters.specs.Sets.{outside}
 use Rattle.integers.proofs.Tests.{every-at, equal-2}
-use Rattle.eisenstein.specs.Values.{ℤ[ω], value, same}
+use Rattle.eisenstein.specs.Values.{ℤ[ω], value}
 use Rattle.eisenstein.specs.Reduction.{bit, mod2}
-use Rattle.eisenstein.proofs.Equality.{same-true}
 use Rattle.polynomials.specs.Polynomials.{Polynomial, coefficient, array, all, reduced2}
 use Rattle.polynomials.proofs.Arrays.{coefficient-array, array-length, array-same, array-coefficients}
-use Rattle.polynomials.proofs.Members.{all-at, at-all, reduced2-at}
+use Rattle.polynomials.proofs.Members.{all-at, at-all, reduced2-at, at-reduced2}
 use Rattle.packing.specs.Messages.{messageBytes, bitOf, pair, packed, spareBitSet, messageBit, byte, listed, unpacked}
 use Rattle.packing.specs.Promises.{Packed-unpacks, Packed-reduced, Unpacked-packs, Unpacked-bytes, Unpacked-spare, Unpacking-undoes-packing, Packing-undoes-unpacking}
 use Rattle.packing.specs.Calls.{packingChecks, packing, unpackingChecks, unpacking}
 
--- ---- lists
+-- ---- lists: their length, and what stands at each place
 
-listed-length : (n : ℕ) (f : ℕ → ℕ) → length (listed n f) ≡ n
+pub listed-length : (n : ℕ) (f : ℕ → ℕ) → length (listed n f) ≡ n
 unfolding listed
 listed-length zero f = refl
 listed-length (suc n) f = ap suc (listed-length n (λ i. f (suc i)))
 
-listed-at : (n : ℕ) (f : ℕ → ℕ) (i : ℕ) → i < n → getD (listed n f) i 0 ≡ f i
+pub listed-at : (n : ℕ) (f : ℕ → ℕ) (i : ℕ) → i < n → getD (listed n f) i 0 ≡ f i
 unfolding listed
 listed-at zero f i h = absurd (omega arith)
 listed-at (suc n) f zero h = refl
 listed-at (suc n) f (suc i) h = listed-at n (λ i. f (suc i)) i (omega arith)
 
-listed-past : (n : ℕ) (f : ℕ → ℕ) (i : ℕ) → n ≤ i → getD (listed n f) i 0 ≡ 0
+pub listed-past : (n : ℕ) (f : ℕ → ℕ) (i : ℕ) → n ≤ i → getD (listed n f) i 0 ≡ 0
 unfolding listed
 listed-past zero f i h = refl
 listed-past (suc n) f zero h = absurd (omega arith)
@@ -123,7 +122,7 @@ unfolding byte bits-of
 byte-of-bits message j h =
     omega (arith, bits-make (getD message j 0) h, bit-at message j 0 (8 * j) (omega arith) (omega arith), bit-at message j 1 (8 * j + 1) (omega arith) refl, bit-at message j 2 (8 * j + 2) (omega arith) refl, bit-at message j 3 (8 * j + 3) (omega arith) refl, bit-at message j 4 (8 * j + 4) (omega arith) refl, bit-at message j 5 (8 * j + 5) (omega arith) refl, bit-at message j 6 (8 * j + 6) (omega arith) refl, bit-at message j 7 (8 * j + 7) (omega arith) refl)
 
-byte-same : (b c : ℕ → ℕ) (j n : ℕ) → j < n → ((k : ℕ) → k < 8 * n → b k ≡ c k) → byte b j ≡ byte c j
+pub byte-same : (b c : ℕ → ℕ) (j n : ℕ) → j < n → ((k : ℕ) → k < 8 * n → b k ≡ c k) → byte b j ≡ byte c j
 unfolding byte
 byte-same b c j n l h =
     omega (arith, h (8 * j) (omega arith), h (8 * j + 1) (omega arith), h (8 * j + 2) (omega arith), h (8 * j + 3) (omega arith), h (8 * j + 4) (omega arith), h (8 * j + 5) (omega arith), h (8 * j + 6) (omega arith), h (8 * j + 7) (omega arith))
@@ -135,7 +134,7 @@ unfolding pair mod2
 pair-mod2 x = refl
 
 -- a pair's bits, of two numbers below 2
-pair-bits : (a b : ℕ) → a < 2 → b < 2 → (bit (pair a b .a) ≡ a) × (bit (pair a b .b) ≡ b)
+pub pair-bits : (a b : ℕ) → a < 2 → b < 2 → (bit (pair a b .a) ≡ a) × (bit (pair a b .b) ≡ b)
 unfolding pair bit
 pair-bits zero zero p q = (refl, refl)
 pair-bits zero (suc zero) p q = (refl, refl)
@@ -150,10 +149,9 @@ pair-reduced a b p q =
     sym (pair-mod2 (pair a b)) ∙ ap₂ pair (pair-bits a b p q .0) (pair-bits a b p q .1)
 
 pub packed-reduced : Packed-reduced
-unfolding reduced2 packed
+unfolding packed
 packed-reduced N message =
-    at-all N (λ i. same (mod2 (packed message i)) (packed message i))
-    (λ i l. subst T (sym (same-true (pair-reduced (bitOf message (2 * i)) (bitOf message (2 * i + 1)) (bitOf-lt message (2 * i)) (bitOf-lt message (2 * i + 1))))) tt)
+    at-reduced2 N (packed message) (λ i l. pair-reduced (bitOf message (2 * i)) (bitOf message (2 * i + 1)) (bitOf-lt message (2 * i)) (bitOf-lt message (2 * i + 1)))
 
 -- bit k of what is packed
 packed-bit : (N : ℕ) (message : List ℕ) (k : ℕ) → k < 2 * N → messageBit N (packed message) k ≡ bitOf message k
@@ -180,7 +178,7 @@ unfolding messageBit
 past-bit N m k l =
     ap (λ (c : Bool). cond c (bit (cond (eqb (k % 2) 0) (m (k / 2) .a) (m (k / 2) .b))) 0) (le-ltb k (2 * N) l)
 
-spare-zero : (N : ℕ) (message : List ℕ) → T (not (spareBitSet N message)) → (k : ℕ) → k < 8 * messageBytes N → 2 * N ≤ k → bitOf message k ≡ 0
+pub spare-zero : (N : ℕ) (message : List ℕ) → T (not (spareBitSet N message)) → (k : ℕ) → k < 8 * messageBytes N → 2 * N ≤ k → bitOf message k ≡ 0
 unfolding spareBitSet
 spare-zero N message t k l p =
     ⊎-elim (λ u. absurd (let v : k < 2 * N = ltb-yes u in omega arith)) (λ u. eqb→eq (bitOf message k) 0 u)
@@ -296,9 +294,8 @@ unpacked-same N {m} {m′} h =
 -- ---- the calls
 
 reduced2-same : (N : ℕ) {m m′ : Polynomial} → ((i : ℕ) → i < N → m i ≡ m′ i) → T (reduced2 N m) → T (reduced2 N m′)
-unfolding reduced2
 reduced2-same N {m} {m′} h t =
-    at-all N (λ i. same (mod2 (m′ i)) (m′ i)) (λ i l. subst (λ (x : ℤ[ω]). T (same (mod2 x) x)) (h i l) (all-at N (λ i. same (mod2 (m i)) (m i)) t i l))
+    at-reduced2 N m′ (λ i l. subst (λ (x : ℤ[ω]). mod2 x ≡ x) (h i l) (reduced2-at N m t i l))
 
 not-set : (t : Bool) → t ≡ false → T (not t)
 not-set t e = subst (λ (u : Bool). T (not u)) (sym e) tt

@@ -1,2 +1,90 @@
-// Message bytes as polynomials, and back: definitions, and proofs of both round trips. See specs/ and proofs/.
-// It has no code: bytes are packed and unpacked in `etru`.
+// Message bytes as polynomials, and back: packing and unpacking, with both round trips.
+// It seals and opens nothing.
+// Each call that answers ends with `Done`, or with document 01's first refusal that applies, and then its output is as it came.
+ghost use mathlib.Core.Path.{_≡_};
+ghost use lib.ListN.{length};
+ghost use Rattle.refusals.specs.Outcomes.{number, Gives};
+ghost use Rattle.refusals.specs.Numbers.{answered};
+ghost use Rattle.eisenstein.specs.Values.{value};
+ghost use Rattle.packing.specs.Messages.{messageBytes, bitOf, packed, spareBitSet};
+ghost use Rattle.packing.specs.Calls.{packing, unpacking};
+
+mod checks;
+mod messages;
+
+use eisenstein::Pair;
+use refusals::Answer;
+
+// The length of a message: "N/4 bytes, rounded up".
+pub fn message_bytes(n: u32) -> usize
+    ensures { λ r. ⌜ r ≡ messageBytes n ⌝ }
+{
+    (n as usize + 3) / 4
+}
+
+// Bit k of the message, highest bit of a byte first; 0 past its end.
+fn bit_of(message: &[u8], k: usize) -> u8
+    ensures { λ r. ⌜ r ≡ bitOf (now (message .entry)) k ⌝ }
+{
+    if k / 8 < message.len() {
+        return (message[k / 8] >> (7 - k % 8)) % 2;
+    }
+    0
+}
+
+// Whether a spare bit of the last byte is set.
+pub fn spare_bit_set(n: u32, message: &[u8]) -> bool
+    ensures { λ r. ⌜ r ≡ spareBitSet n (now (message .entry)) ⌝ }
+{
+    let end = 8 * message_bytes(n);
+    let mut k = 2 * (n as usize);
+    while k < end {
+        if bit_of(message, k) != 0 {
+            return true;
+        }
+        k += 1;
+    }
+    false
+}
+
+// The coefficient of pair i of the message's bits.
+pub fn pair_of(message: &[u8], i: u32) -> Pair
+    ensures { λ r. ⌜ value (r .a) (r .b) ≡ packed (now (message .entry)) i ⌝ }
+{
+    let k = 2 * (i as usize);
+    let a = bit_of(message, k);
+    let b = bit_of(message, k + 1);
+    if a + b == 2 {
+        return Pair { a: -1, b: -1 };
+    }
+    Pair {
+        a: a as i32,
+        b: b as i32,
+    }
+}
+
+// The polynomial of N coefficients that a message stands for, to m.
+pub fn pack(n: u32, message: &[u8], m: &mut [i32]) -> Answer
+    ensures { λ r. ⌜ Gives (packing n (now (message .entry)) (length (now (m .entry)))) (number (answered r)) (now (m .entry)) (now (m .exit)) ⌝ }
+{
+    match checks::packing_refusal(n, message, m.len()) {
+        Answer::Done => {
+            messages::pack_into(n as usize, message, m);
+            Answer::Done
+        }
+        Answer::Refused(refusal) => Answer::Refused(refusal),
+    }
+}
+
+// The message that a polynomial of N coefficients stands for, to message.
+pub fn unpack(n: u32, m: &[i32], message: &mut [u8]) -> Answer
+    ensures { λ r. ⌜ Gives (unpacking n (now (m .entry)) (length (now (message .entry)))) (number (answered r)) (now (message .entry)) (now (message .exit)) ⌝ }
+{
+    match checks::unpacking_refusal(n, m, message.len()) {
+        Answer::Done => {
+            messages::unpack_into(n as usize, m, message);
+            Answer::Done
+        }
+        Answer::Refused(refusal) => Answer::Refused(refusal),
+    }
+}

@@ -1,0 +1,24 @@
+-- `lengths_right` meets its contract.
+use mathlib.Core.Path.{sym, _∙_, ap}
+use mathlib.Core.Bool.{Bool, _&&_}
+use borrow.Author.Needs.{needs}
+use borrow.Author.Tests.{eq-eqb, ne-eqb}
+use Rattle.arrays.specs.Arrays.{full}
+use Rattle.packing.proofs.checks.lengths_right.Statement.{statement}
+use Rattle.packing.proofs.checks.lengths_right.Tie as tie
+
+abbrev last : tie.Start → Bool
+last s = full (s .args .n) (s .args .array)
+
+pub lengths-right-spec : {M : Type 1} → statement M
+lengths-right-spec =
+    tie.close
+    (tie.spec
+    (λ c κs. search needs)
+    (λ c. search needs)
+    (λ c.
+    let m = c .before in
+    sym (ap (λ (t : Bool). t && last (m .before)) (eq-eqb _ _ (c .if1 .taken ∙ m .message-bytes .ensures))))
+    (λ c.
+    let m = c .before in
+    sym (ap (λ (t : Bool). t && last (m .before)) (ne-eqb _ _ (λ e. c .if1 .left (e ∙ sym (m .message-bytes .ensures)))))))

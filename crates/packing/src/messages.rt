@@ -1,0 +1,63 @@
+// A whole message to its array, and back.
+ghost use mathlib.Core.Path.{_≡_};
+ghost use Prim.Native.Nat.{_*_, _<_, _≤_};
+ghost use lib.ListN.{length};
+ghost use Rattle.polynomials.specs.Polynomials.{coefficient, array};
+ghost use Rattle.packing.specs.Messages.{messageBytes, packed, messageBit, byte, unpacked};
+use crate::pair_of;
+
+pub(crate) fn pack_into(n: usize, message: &[u8], m: &mut [i32])
+    requires { ⌜ (n ≤ 1024) × (length (now m) ≡ 2 * n) ⌝ }
+    ensures { λ _. ⌜ now (m .exit) ≡ array n (packed (now (message .entry))) ⌝ }
+{
+    let mut i = 0;
+    while i < n {
+        let v = pair_of(message, i as u32);
+        let a = v.a;
+        let b = v.b;
+        m[2 * i] = a;
+        m[2 * i + 1] = b;
+        i += 1;
+    }
+}
+
+// Bit k of the message that m stands for.
+fn message_bit(n: usize, m: &[i32], k: usize) -> u32
+    requires { ⌜ (n ≤ 1024) × (length (now m) ≡ 2 * n) ⌝ }
+    ensures { λ r. ⌜ (r ≡ messageBit n (coefficient (now (m .entry))) k) × (r < 2) ⌝ }
+{
+    if k < 2 * n {
+        if eisenstein::odd(arrays::at(m, k)) {
+            return 1;
+        }
+    }
+    0
+}
+
+// Byte j of that message.
+fn byte_of(n: usize, m: &[i32], j: usize) -> u8
+    requires { ⌜ (n ≤ 1024) × (length (now m) ≡ 2 * n) × (j < 1024) ⌝ }
+    ensures { λ r. ⌜ r ≡ byte (messageBit n (coefficient (now (m .entry)))) j ⌝ }
+{
+    let b0 = message_bit(n, m, 8 * j);
+    let b1 = message_bit(n, m, 8 * j + 1);
+    let b2 = message_bit(n, m, 8 * j + 2);
+    let b3 = message_bit(n, m, 8 * j + 3);
+    let b4 = message_bit(n, m, 8 * j + 4);
+    let b5 = message_bit(n, m, 8 * j + 5);
+    let b6 = message_bit(n, m, 8 * j + 6);
+    let b7 = message_bit(n, m, 8 * j + 7);
+    (128 * b0 + 64 * b1 + 32 * b2 + 16 * b3 + 8 * b4 + 4 * b5 + 2 * b6 + b7) as u8
+}
+
+pub(crate) fn unpack_into(n: usize, m: &[i32], message: &mut [u8])
+    requires { ⌜ (n ≤ 1024) × (length (now m) ≡ 2 * n) × (length (now message) ≡ messageBytes n) ⌝ }
+    ensures { λ _. ⌜ now (message .exit) ≡ unpacked n (coefficient (now (m .entry))) ⌝ }
+{
+    let mut j = 0;
+    while j < message.len() {
+        let b = byte_of(n, m, j);
+        message[j] = b;
+        j += 1;
+    }
+}
