@@ -1,0 +1,2 @@
+pub mod RotatedSums
+pub mod Operands

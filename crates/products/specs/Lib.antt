@@ -1,0 +1,3 @@
+pub mod Rotations
+pub mod Conditions
+pub mod Products

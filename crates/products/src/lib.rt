@@ -1,0 +1,85 @@
+// Products of arrays: convolution modulo q, and the product with an array of zeros and units, plain, modulo q and modulo 2.
+// What an array stands for in the scheme is not this crate's business.
+// No function relies on its caller: each asks of its arrays what its arithmetic needs.
+ghost use mathlib.Core.Path.{_≡_};
+ghost use mathlib.Core.Bool.{_&&_};
+ghost use lib.ListN.{length};
+ghost use Rattle.refusals.specs.Outcomes.{number, Gives};
+ghost use Rattle.refusals.specs.Numbers.{answered};
+ghost use Rattle.eisenstein.specs.Values.{value};
+ghost use Rattle.eisenstein.specs.Reduction.{modQ, mod2};
+ghost use Rattle.parameters.specs.Sets.{setOf};
+ghost use Rattle.polynomials.specs.Polynomials.{coefficient, array, convolution};
+ghost use Rattle.products.specs.Products.{convolving, Forms, multipliable, usable};
+
+mod checks;
+mod direct;
+mod reductions;
+mod rotations;
+
+use parameters::Parameters;
+use refusals::Answer;
+
+// x × y reduced modulo q, to out.
+pub fn convolve(p: Parameters, x: &[i32], y: &[i32], out: &mut [i32]) -> Answer
+    ensures { λ r. ⌜ Gives (convolving (setOf p) (now (x .entry)) (now (y .entry)) (length (now (out .entry)))) (number (answered r)) (now (out .entry)) (now (out .exit)) ⌝ }
+{
+    let n = p.n;
+    let c = p.c;
+    let d = p.d;
+    match checks::convolving_refusal(p, x, y, out.len()) {
+        Answer::Done => {
+            direct::convolve_q(x, y, n as usize, c, d, out);
+            Answer::Done
+        }
+        Answer::Refused(refusal) => Answer::Refused(refusal),
+    }
+}
+
+// x × y, to out, where x is of zeros and units. Answers whether it was formed; nothing is written otherwise.
+pub fn multiply_units(n: u32, x: &[i32], y: &[i32], out: &mut [i32]) -> bool
+    ensures { λ r. ⌜ Forms (multipliable n (now (x .entry)) (now (y .entry)) (length (now (out .entry))))
+        (array n (convolution n (coefficient (now (x .entry))) (coefficient (now (y .entry))))) r (now (out .entry)) (now (out .exit)) ⌝ }
+{
+    if !checks::multipliable(n, x, y, out.len()) {
+        return false;
+    }
+    rotations::convolve_units(x, y, n as usize, out);
+    true
+}
+
+// The same modulo q = (c, d).
+pub fn multiply_units_modulo_q(
+    n: u32,
+    c: i32,
+    d: i32,
+    x: &[i32],
+    y: &[i32],
+    out: &mut [i32],
+) -> bool
+    ensures { λ r. ⌜ Forms (multipliable n (now (x .entry)) (now (y .entry)) (length (now (out .entry))) && usable (value c d))
+        (array n (λ i. modQ (value c d) (convolution n (coefficient (now (x .entry))) (coefficient (now (y .entry))) i))) r (now (out .entry)) (now (out .exit)) ⌝ }
+{
+    if !checks::multipliable(n, x, y, out.len()) {
+        return false;
+    }
+    if !checks::usable(c, d) {
+        return false;
+    }
+    rotations::convolve_units(x, y, n as usize, out);
+    reductions::reduce_all_q(out, n as usize, c, d);
+    true
+}
+
+// The same modulo 2.
+pub fn multiply_units_modulo_2(n: u32, x: &[i32], y: &[i32], out: &mut [i32]) -> bool
+    ensures { λ r. ⌜ Forms (multipliable n (now (x .entry)) (now (y .entry)) (length (now (out .entry))))
+        (array n (λ i. mod2 (convolution n (coefficient (now (x .entry))) (coefficient (now (y .entry))) i))) r (now (out .entry)) (now (out .exit)) ⌝ }
+{
+    if !checks::multipliable(n, x, y, out.len()) {
+        return false;
+    }
+    rotations::convolve_units(x, y, n as usize, out);
+    reductions::reduce_all_2(out, n as usize);
+    true
+}
