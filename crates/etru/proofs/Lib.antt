@@ -1,8 +1,6 @@
-pub mod Scans
-pub mod Changing
-pub mod RotatedSums
-pub mod Sizes
 pub mod Passed
-pub mod AcceptedParameters
+pub mod Products
+pub mod Ones
+pub mod Openings
 pub mod Correctness
 pub mod Demand3

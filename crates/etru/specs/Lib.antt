@@ -1,5 +1,5 @@
 pub mod Scheme
-pub mod Axes
 pub mod Calls
+pub mod Conditions
 pub mod Promises
 pub mod Demand3

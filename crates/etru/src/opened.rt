@@ -1,60 +1,46 @@
-// F2 × (f × e reduced modulo q) reduced modulo 2, as message bytes.
+// F2 × (f × e reduced modulo q) reduced modulo 2, as message bytes, where opening's checks have passed.
 ghost use mathlib.Core.Path.{_≡_};
-ghost use mathlib.Core.Bool.{true, false, not, _||_};
-ghost use mathlib.Core.Logic.{_≢_};
-ghost use Prim.Native.Nat.{ℕ, _*_, _^_, _≤_};
-ghost use lib.IntN.{pos, natAbs};
-ghost use lib.ListN.{length, getD};
-ghost use Rattle.eisenstein.specs.Values.{value, 𝟘, units};
-ghost use Rattle.eisenstein.specs.Reduction.{modQ, mod2};
-ghost use Rattle.eisenstein.specs.Calls.{beyond};
-ghost use Rattle.polynomials.specs.Polynomials.{coefficient, convolution, all, nonzero, among};
-ghost use Rattle.packing.specs.Messages.{messageBytes, unpacked};
-use crate::messages::unpack_into;
-use crate::products::reduce_all_2;
-use crate::products::reduce_all_q;
-use crate::rotations::convolve_units;
-use crate::zeros;
+ghost use mathlib.Core.List.{_++_};
+ghost use Prim.Native.Nat.{_*_};
+ghost use lib.ListN.{length};
+ghost use Rattle.refusals.specs.Outcomes.{Passes};
+ghost use Rattle.parameters.specs.Sets.{setOf, parameterChecks};
+ghost use Rattle.polynomials.specs.Polynomials.{coefficient};
+ghost use Rattle.packing.specs.Messages.{unpacked};
+ghost use Rattle.etru.specs.Scheme.{opened};
+ghost use Rattle.etru.specs.Calls.{openingChecks};
+use parameters::Parameters;
 
 // The two products go to lent arrays.
 fn open_with(
+    p: Parameters,
     f: &[i32],
     f2: &[i32],
     e: &[i32],
-    n: usize,
-    c: i32,
-    d: i32,
     product: &mut [i32],
     m: &mut [i32],
     message: &mut [u8],
 )
-    requires { ⌜ (n ≤ 1024) × (length (now f) ≡ 2 * n) × (length (now f2) ≡ 2 * n) × (length (now e) ≡ 2 * n) × (length (now product) ≡ 2 * n) × (length (now m) ≡ 2 * n) × (length (now message) ≡ messageBytes n) × (beyond 4095 (value c d) ≡ false) × (value c d ≢ 𝟘) × (all n (λ i. not (nonzero (coefficient (now f) i)) || among units (coefficient (now f) i)) ≡ true) × (all n (λ i. not (nonzero (coefficient (now f2) i)) || among units (coefficient (now f2) i)) ≡ true) ⌝ }
-    requires { ⌜ ((k : ℕ) → natAbs (getD (now e) k (pos 0)) ≤ 2 ^ 13) ⌝ }
-    ensures { λ _. ⌜ now (message .exit) ≡ unpacked n (λ i. mod2 (convolution n (coefficient (now (f2 .entry))) (λ j. modQ (value c d) (convolution n (coefficient (now (f .entry))) (coefficient (now (e .entry))) j)) i)) ⌝ }
+    requires { ⌜ Passes (parameterChecks (setOf p) ++ openingChecks (setOf p) (now f) (now f2) (now e) (length (now message))) ⌝ }
+    requires { ⌜ (length (now product) ≡ 2 * p .n) × (length (now m) ≡ 2 * p .n) ⌝ }
+    ensures { λ _. ⌜ now (message .exit) ≡ unpacked (p .n) (opened (setOf p) (coefficient (now (f .entry))) (coefficient (now (f2 .entry))) (coefficient (now (e .entry)))) ⌝ }
 {
-    convolve_units(f, e, n, product);
-    reduce_all_q(product, n, c, d);
-    convolve_units(f2, product, n, m);
-    reduce_all_2(m, n);
-    unpack_into(n, m, message);
+    let n = p.n;
+    let c = p.c;
+    let d = p.d;
+    products::multiply_units_modulo_q(n, c, d, f, e, product);
+    products::multiply_units_modulo_2(n, f2, product, m);
+    packing::unpack(n, m, message);
 }
 
 // The products take 16 KiB of stack.
-pub(crate) fn open_into(
-    f: &[i32],
-    f2: &[i32],
-    e: &[i32],
-    n: usize,
-    c: i32,
-    d: i32,
-    message: &mut [u8],
-)
-    requires { ⌜ (n ≤ 1024) × (length (now f) ≡ 2 * n) × (length (now f2) ≡ 2 * n) × (length (now e) ≡ 2 * n) × (length (now message) ≡ messageBytes n) × (beyond 4095 (value c d) ≡ false) × (value c d ≢ 𝟘) × (all n (λ i. not (nonzero (coefficient (now f) i)) || among units (coefficient (now f) i)) ≡ true) × (all n (λ i. not (nonzero (coefficient (now f2) i)) || among units (coefficient (now f2) i)) ≡ true) ⌝ }
-    requires { ⌜ ((k : ℕ) → natAbs (getD (now e) k (pos 0)) ≤ 2 ^ 13) ⌝ }
-    ensures { λ _. ⌜ now (message .exit) ≡ unpacked n (λ i. mod2 (convolution n (coefficient (now (f2 .entry))) (λ j. modQ (value c d) (convolution n (coefficient (now (f .entry))) (coefficient (now (e .entry))) j)) i)) ⌝ }
+pub(crate) fn open_into(p: Parameters, f: &[i32], f2: &[i32], e: &[i32], message: &mut [u8])
+    requires { ⌜ Passes (parameterChecks (setOf p) ++ openingChecks (setOf p) (now f) (now f2) (now e) (length (now message))) ⌝ }
+    ensures { λ _. ⌜ now (message .exit) ≡ unpacked (p .n) (opened (setOf p) (coefficient (now (f .entry))) (coefficient (now (f2 .entry))) (coefficient (now (e .entry)))) ⌝ }
 {
-    let mut product = zeros();
-    let mut m = zeros();
-    let k = 2 * n;
-    open_with(f, f2, e, n, c, d, &mut product[..k], &mut m[..k], message);
+    let n = p.n;
+    let k = 2 * (n as usize);
+    let mut product = arrays::zeros();
+    let mut m = arrays::zeros();
+    open_with(p, f, f2, e, &mut product[..k], &mut m[..k], message);
 }

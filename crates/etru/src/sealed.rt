@@ -1,63 +1,59 @@
-// e = 2φ × h + m reduced modulo q, where φ is of zeros and units and h is small.
+// e = 2φ × h + m reduced modulo q, where sealing's checks have passed.
 ghost use mathlib.Core.Path.{_≡_};
-ghost use mathlib.Core.Bool.{true, false, not, _||_};
-ghost use mathlib.Core.Logic.{_≢_};
-ghost use Prim.Native.Nat.{ℕ, _*_, _^_, _<_, _≤_};
-ghost use lib.IntN.{pos, natAbs};
-ghost use lib.ListN.{length, getD};
-ghost use Rattle.eisenstein.specs.Values.{value, 𝟘, units, _+ω_};
+ghost use mathlib.Core.List.{_++_};
+ghost use Prim.Native.Nat.{_*_, _<_};
+ghost use lib.ListN.{length};
+ghost use Rattle.refusals.specs.Outcomes.{Passes};
+ghost use Rattle.eisenstein.specs.Values.{value, _+ω_};
 ghost use Rattle.eisenstein.specs.Reduction.{modQ};
-ghost use Rattle.eisenstein.specs.Calls.{beyond};
-ghost use Rattle.polynomials.specs.Polynomials.{coefficient, array, convolution, all, nonzero, among};
-ghost use Rattle.packing.specs.Messages.{messageBytes, packed};
-use crate::arrays::at;
-use crate::messages::pair_of;
-use crate::products::reduced_q;
-use crate::products::store;
-use crate::rotations::convolve_units;
+ghost use Rattle.parameters.specs.Sets.{setOf, parameterChecks};
+ghost use Rattle.polynomials.specs.Polynomials.{coefficient, array};
+ghost use Rattle.packing.specs.Messages.{packed};
+ghost use Rattle.etru.specs.Scheme.{sealed};
+ghost use Rattle.etru.specs.Calls.{sealingChecks};
 use eisenstein::Pair;
+use parameters::Parameters;
 
-// Coefficient i of 2·product + m, reduced modulo q = (c, d).
-fn sealed_at(product: &[i32], message: &[u8], n: usize, c: i32, d: i32, i: usize) -> Pair
-    requires { ⌜ (i < n) × (n ≤ 1024) × (length (now product) ≡ 2 * n) × (length (now message) ≡ messageBytes n) × (beyond 4095 (value c d) ≡ false) × (value c d ≢ 𝟘) ⌝ }
-    ensures { λ r. ⌜ value (r .a) (r .b) ≡ modQ (value c d) (coefficient (now (product .entry)) i +ω coefficient (now (product .entry)) i +ω packed (now (message .entry)) i) ⌝ }
+// Coefficient i of 2·product + m, reduced modulo q.
+fn sealed_at(p: Parameters, product: &[i32], message: &[u8], i: usize) -> Pair
+    requires { ⌜ Passes (parameterChecks (setOf p)) × (i < p .n) ⌝ }
+    ensures { λ r. ⌜ value (r .a) (r .b) ≡ modQ (setOf p .q) (coefficient (now (product .entry)) i +ω coefficient (now (product .entry)) i +ω packed (now (message .entry)) i) ⌝ }
 {
-    let pa = at(product, 2 * i);
-    let pb = at(product, 2 * i + 1);
-    let m = pair_of(message, i);
+    let c = p.c;
+    let d = p.d;
+    let pa = arrays::at(product, 2 * i);
+    let pb = arrays::at(product, 2 * i + 1);
+    let m = packing::pair_of(message, i as u32);
     let ma = m.a;
     let mb = m.b;
     let a = pa + pa + ma as i64;
     let b = pb + pb + mb as i64;
-    reduced_q(a, b, c, d)
+    eisenstein::remainder_q(a, b, c, d)
 }
 
 // Turns the product φ × h into what is sealed.
-fn add_message(e: &mut [i32], message: &[u8], n: usize, c: i32, d: i32)
-    requires { ⌜ (n ≤ 1024) × (length (now e) ≡ 2 * n) × (length (now message) ≡ messageBytes n) × (beyond 4095 (value c d) ≡ false) × (value c d ≢ 𝟘) ⌝ }
-    ensures { λ _. ⌜ now (e .exit) ≡ array n (λ i. modQ (value c d) (coefficient (now (e .entry)) i +ω coefficient (now (e .entry)) i +ω packed (now (message .entry)) i)) ⌝ }
+fn add_message(p: Parameters, message: &[u8], e: &mut [i32])
+    requires { ⌜ Passes (parameterChecks (setOf p)) × (length (now e) ≡ 2 * p .n) ⌝ }
+    ensures { λ _. ⌜ now (e .exit) ≡ array (p .n) (λ i. modQ (setOf p .q) (coefficient (now (e .entry)) i +ω coefficient (now (e .entry)) i +ω packed (now (message .entry)) i)) ⌝ }
 {
+    let n = p.n;
+    let end = n as usize;
     let mut i = 0;
-    while i < n {
-        let r = sealed_at(e, message, n, c, d, i);
-        store(e, i, r);
+    while i < end {
+        let r = sealed_at(p, e, message, i);
+        let a = r.a;
+        let b = r.b;
+        e[2 * i] = a;
+        e[2 * i + 1] = b;
         i += 1;
     }
 }
 
-pub(crate) fn seal_into(
-    h: &[i32],
-    phi: &[i32],
-    message: &[u8],
-    n: usize,
-    c: i32,
-    d: i32,
-    e: &mut [i32],
-)
-    requires { ⌜ (n ≤ 1024) × (length (now h) ≡ 2 * n) × (length (now phi) ≡ 2 * n) × (length (now message) ≡ messageBytes n) × (length (now e) ≡ 2 * n) × (beyond 4095 (value c d) ≡ false) × (value c d ≢ 𝟘) × (all n (λ i. not (nonzero (coefficient (now phi) i)) || among units (coefficient (now phi) i)) ≡ true) ⌝ }
-    requires { ⌜ ((k : ℕ) → natAbs (getD (now h) k (pos 0)) ≤ 2 ^ 13) ⌝ }
-    ensures { λ _. ⌜ now (e .exit) ≡ array n (λ i. modQ (value c d) (convolution n (λ j. coefficient (now (phi .entry)) j +ω coefficient (now (phi .entry)) j) (coefficient (now (h .entry))) i +ω packed (now (message .entry)) i)) ⌝ }
+pub(crate) fn seal_into(p: Parameters, h: &[i32], phi: &[i32], message: &[u8], e: &mut [i32])
+    requires { ⌜ Passes (parameterChecks (setOf p) ++ sealingChecks (setOf p) (now h) (now phi) (now message) (length (now e))) ⌝ }
+    ensures { λ _. ⌜ now (e .exit) ≡ array (p .n) (sealed (setOf p) (coefficient (now (h .entry))) (coefficient (now (phi .entry))) (packed (now (message .entry)))) ⌝ }
 {
-    convolve_units(phi, h, n, e);
-    add_message(e, message, n, c, d);
+    let n = p.n;
+    products::multiply_units(n, phi, h, e);
+    add_message(p, message, e);
 }

@@ -1,62 +1,44 @@
--- `open` meets its contract: the parameter set's checks, then those of the call.
-use mathlib.Core.Path.{_≡_, sym, _∙_, ap}
-use mathlib.Core.List.{List}
+-- `open` meets its contract.
+use mathlib.Core.Path.{sym, _∙_, ap}
+use mathlib.Core.List.{List, _++_}
 use Prim.Native.Nat.{ℕ}
 use borrow.Author.Needs.{needs}
-use denote.Ref.{now}
 use lib.ListN.{length}
-use Rattle.refusals.specs.Outcomes.{Check, Outcome, outcome, number, written}
+use Rattle.refusals.specs.Outcomes.{Check, Passes}
 use Rattle.refusals.specs.Numbers.{answered}
-use Rattle.refusals.proofs.Checks.{passed-all, refused-first}
-use Rattle.eisenstein.specs.Values.{ℤ[ω]}
-use Rattle.parameters.specs.Sets.{ParameterSet, setOf, parameterChecks}
-use Rattle.polynomials.specs.Polynomials.{coefficient, convolution}
-use Rattle.eisenstein.specs.Reduction.{modQ, mod2}
+use Rattle.refusals.proofs.Checks.{gives-done, gives-refused}
+use Rattle.parameters.specs.Sets.{setOf, parameterChecks}
+use Rattle.polynomials.specs.Polynomials.{coefficient}
 use Rattle.packing.specs.Messages.{unpacked}
 use Rattle.etru.specs.Scheme.{opened}
 use Rattle.etru.specs.Calls.{openingChecks, opening}
-use Rattle.etru.proofs.AcceptedParameters.{Accepted, accepted-parameters, modulus-read, accepted-requires}
 use Rattle.etru.proofs.open.Statement.{statement}
 use Rattle.etru.proofs.open.Tie as tie
 
-abbrev P : tie.Start → ParameterSet
-P s = setOf (s .args .p)
+abbrev checks : tie.Start → List Check
+checks s = parameterChecks (setOf (s .args .p)) ++ openingChecks (setOf (s .args .p)) (s .args .f .now) (s .args .f2 .now) (s .args .e .now) (length (s .args .message .now))
 
-abbrev checks : tie.Start → ℤ[ω] → List Check
-checks s q = openingChecks (s .args .p .n) q (s .args .p .t) (s .args .f .now) (s .args .f2 .now) (s .args .e .now) (length (s .args .message .now))
+abbrev value-of : tie.Start → List ℕ
+value-of s = unpacked (s .args .p .n) (opened (setOf (s .args .p)) (coefficient (s .args .f .now)) (coefficient (s .args .f2 .now)) (coefficient (s .args .e .now)))
 
-abbrev value-of : tie.Start → ℤ[ω] → List ℕ
-value-of s q = unpacked (s .args .p .n) (λ i. mod2 (convolution (s .args .p .n) (coefficient (s .args .f2 .now)) (λ j. modQ q (convolution (s .args .p .n) (coefficient (s .args .f .now)) (coefficient (s .args .e .now)) j)) i))
-
-check-is : (c : tie.After-check) → answered (c .check .result) ≡ outcome (parameterChecks (P (c .before .before .before .before))) (tt {0})
-check-is c = c .check .ensures
-
-accepted : (c : tie.After-enum-told) → Accepted (P (c .before .before .before .before .before .before))
-accepted c = accepted-parameters (P (c .before .before .before .before .before .before)) (sym (check-is (c .before .before)) ∙ ap answered (c .enum-told .given .1))
+all-passed : (c : tie.After-enum-told) → Passes (checks (c .before .before .before .before))
+all-passed c = sym (c .before .before .opening-refusal .ensures) ∙ ap answered (c .enum-told .given .1)
 
 pub open-spec : {M : Type 1} → statement M
-unfolding opening opened
+unfolding opening
 open-spec =
     tie.close
     (tie.spec
     (λ c κs. search needs)
     (λ c. search needs)
-    (λ c. search needs)
-    (λ c. search needs)
-    (λ c κs.
-    let s = c .before .before .before .before .before .before .before in
-    accepted-requires (s .args .p) (search needs) (search needs) (accepted (c .before)))
+    (λ c κs. all-passed (c .before))
     (λ c. search needs)
     (λ c. search needs)
     (λ c.
     let r = c .before .before .before .before in
-    let s = r .before .before .before .before .before .before in
-    let o = passed-all (parameterChecks (P s)) (checks s (P s .q)) (value-of s (P s .q)) (accepted r .checks) in (
-      c .before .before .open .ensures .0 ∙ ap (λ (q : ℤ[ω]). number (outcome (checks s q) (value-of s q))) (modulus-read (s .args .p) (search needs) (search needs)) ∙ sym (ap number o),
-      c .before .before .open .ensures .1 ∙ ap (λ (q : ℤ[ω]). written (outcome (checks s q) (value-of s q)) (now (s .args .message))) (modulus-read (s .args .p) (search needs) (search needs)) ∙ sym (ap (λ (x : Outcome (List ℕ)). written x (now (s .args .message))) o),
-    ))
+    let s = r .before .before .before .before in
+    gives-done (checks s) (value-of s) (s .args .message .now) _ (all-passed r) (c .before .before .open-into .ensures))
     (λ c.
     let r = c .before .before .before in
-    let s = r .before .before .before .before in
-    let o = refused-first (parameterChecks (P s)) (checks s (P s .q)) (value-of s (P s .q)) _ (sym (check-is r) ∙ ap answered (c .before .refusal .given .1)) in
-    (sym (ap number o), sym (ap (λ (x : Outcome (List ℕ)). written x (now (s .args .message))) o))))
+    let s = r .before .before in
+    gives-refused (checks s) (value-of s) (s .args .message .now) _ (sym (r .opening-refusal .ensures) ∙ ap answered (c .before .refusal .given .1))))

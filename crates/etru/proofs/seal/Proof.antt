@@ -1,62 +1,44 @@
--- `seal` meets its contract: the parameter set's checks, then those of the call.
-use mathlib.Core.Path.{_≡_, sym, _∙_, ap}
-use mathlib.Core.List.{List}
+-- `seal` meets its contract.
+use mathlib.Core.Path.{sym, _∙_, ap}
+use mathlib.Core.List.{List, _++_}
 use borrow.Author.Needs.{needs}
-use denote.Ref.{now}
 use lib.IntN.{ℤ}
 use lib.ListN.{length}
-use Rattle.refusals.specs.Outcomes.{Check, Outcome, outcome, number, written}
+use Rattle.refusals.specs.Outcomes.{Check, Passes}
 use Rattle.refusals.specs.Numbers.{answered}
-use Rattle.refusals.proofs.Checks.{passed-all, refused-first}
-use Rattle.eisenstein.specs.Values.{ℤ[ω], _+ω_}
-use Rattle.parameters.specs.Sets.{ParameterSet, setOf, parameterChecks}
-use Rattle.polynomials.specs.Polynomials.{coefficient, array, convolution}
-use Rattle.eisenstein.specs.Reduction.{modQ}
+use Rattle.refusals.proofs.Checks.{gives-done, gives-refused}
+use Rattle.parameters.specs.Sets.{setOf, parameterChecks}
+use Rattle.polynomials.specs.Polynomials.{coefficient, array}
 use Rattle.packing.specs.Messages.{packed}
 use Rattle.etru.specs.Scheme.{sealed}
 use Rattle.etru.specs.Calls.{sealingChecks, sealing}
-use Rattle.etru.proofs.AcceptedParameters.{Accepted, accepted-parameters, modulus-read, accepted-requires}
 use Rattle.etru.proofs.seal.Statement.{statement}
 use Rattle.etru.proofs.seal.Tie as tie
 
-abbrev P : tie.Start → ParameterSet
-P s = setOf (s .args .p)
+abbrev checks : tie.Start → List Check
+checks s = parameterChecks (setOf (s .args .p)) ++ sealingChecks (setOf (s .args .p)) (s .args .h .now) (s .args .phi .now) (s .args .message .now) (length (s .args .e .now))
 
-abbrev checks : tie.Start → ℤ[ω] → List Check
-checks s q = sealingChecks (s .args .p .n) q (s .args .p .s) (s .args .h .now) (s .args .phi .now) (s .args .message .now) (length (s .args .e .now))
+abbrev value-of : tie.Start → List ℤ
+value-of s = array (s .args .p .n) (sealed (setOf (s .args .p)) (coefficient (s .args .h .now)) (coefficient (s .args .phi .now)) (packed (s .args .message .now)))
 
-abbrev value-of : tie.Start → ℤ[ω] → List ℤ
-value-of s q = array (s .args .p .n) (λ i. modQ q (convolution (s .args .p .n) (λ j. (coefficient (s .args .phi .now)) j +ω (coefficient (s .args .phi .now)) j) (coefficient (s .args .h .now)) i +ω packed (s .args .message .now) i))
-
-check-is : (c : tie.After-check) → answered (c .check .result) ≡ outcome (parameterChecks (P (c .before .before .before .before))) (tt {0})
-check-is c = c .check .ensures
-
-accepted : (c : tie.After-enum-told) → Accepted (P (c .before .before .before .before .before .before))
-accepted c = accepted-parameters (P (c .before .before .before .before .before .before)) (sym (check-is (c .before .before)) ∙ ap answered (c .enum-told .given .1))
+all-passed : (c : tie.After-enum-told) → Passes (checks (c .before .before .before .before))
+all-passed c = sym (c .before .before .sealing-refusal .ensures) ∙ ap answered (c .enum-told .given .1)
 
 pub seal-spec : {M : Type 1} → statement M
-unfolding sealing sealed
+unfolding sealing
 seal-spec =
     tie.close
     (tie.spec
     (λ c κs. search needs)
     (λ c. search needs)
+    (λ c κs. all-passed (c .before))
     (λ c. search needs)
     (λ c. search needs)
-    (λ c κs.
-    let s = c .before .before .before .before .before .before .before in
-    accepted-requires (s .args .p) (search needs) (search needs) (accepted (c .before)))
-    (λ c. search needs)
-    (λ c. search needs)
-    (λ c.
-    let r = c .before .before .before in
-    let s = r .before .before .before .before .before .before in
-    let o = passed-all (parameterChecks (P s)) (checks s (P s .q)) (value-of s (P s .q)) (accepted r .checks) in (
-      c .before .seal .ensures .0 ∙ ap (λ (q : ℤ[ω]). number (outcome (checks s q) (value-of s q))) (modulus-read (s .args .p) (search needs) (search needs)) ∙ sym (ap number o),
-      c .before .seal .ensures .1 ∙ ap (λ (q : ℤ[ω]). written (outcome (checks s q) (value-of s q)) (now (s .args .e))) (modulus-read (s .args .p) (search needs) (search needs)) ∙ sym (ap (λ (x : Outcome (List ℤ)). written x (now (s .args .e))) o),
-    ))
     (λ c.
     let r = c .before .before .before in
     let s = r .before .before .before .before in
-    let o = refused-first (parameterChecks (P s)) (checks s (P s .q)) (value-of s (P s .q)) _ (sym (check-is r) ∙ ap answered (c .before .refusal .given .1)) in
-    (sym (ap number o), sym (ap (λ (x : Outcome (List ℤ)). written x (now (s .args .e))) o))))
+    gives-done (checks s) (value-of s) (s .args .e .now) _ (all-passed r) (c .before .seal-into .ensures))
+    (λ c.
+    let r = c .before .before .before in
+    let s = r .before .before in
+    gives-refused (checks s) (value-of s) (s .args .e .now) _ (sym (r .sealing-refusal .ensures) ∙ ap answered (c .before .refusal .given .1))))

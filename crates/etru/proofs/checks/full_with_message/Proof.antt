@@ -3,11 +3,11 @@ use mathlib.Core.Path.{sym, _∙_, ap}
 use mathlib.Core.Bool.{Bool, _&&_}
 use borrow.Author.Needs.{needs}
 use borrow.Author.Tests.{eq-eqb, ne-eqb}
-use Rattle.etru.specs.Calls.{full}
+use Rattle.arrays.specs.Arrays.{full}
 use Rattle.etru.proofs.checks.full_with_message.Statement.{statement}
 use Rattle.etru.proofs.checks.full_with_message.Tie as tie
 
--- the tests after the first
+-- the tests of the arrays
 abbrev rest : tie.Start → Bool
 rest s = full (s .args .n) (s .args .x) && (full (s .args .n) (s .args .y) && full (s .args .n) (s .args .z))
 
@@ -15,12 +15,11 @@ pub full-with-message-spec : {M : Type 1} → statement M
 full-with-message-spec =
     tie.close
     (tie.spec
-    (λ c. search needs)
     (λ c κs. search needs)
     (λ c κs. search needs)
     (λ c.
     let m = c .before .before in
-    c .full-3 .ensures ∙ sym (ap (λ (t : Bool). t && rest (m .before)) (eq-eqb _ _ (c .before .if1 .taken ∙ m .message-bytes .ensures))))
+    c .three-full .ensures ∙ sym (ap (λ (t : Bool). t && rest (m .before)) (eq-eqb _ _ (c .before .if1 .taken ∙ m .message-bytes .ensures))))
     (λ c.
     let m = c .before in
     sym (ap (λ (t : Bool). t && rest (m .before)) (ne-eqb _ _ (λ e. c .if1 .left (e ∙ sym (m .message-bytes .ensures)))))))

@@ -7,12 +7,14 @@ use lib.IntN.{ℤ}
 use lib.ListN.{length}
 use Rattle.eisenstein.specs.Values.{ℤ[ω], _+ω_}
 use Rattle.eisenstein.specs.Reduction.{modQ}
-use Rattle.eisenstein.proofs.Pairs.{pair-read}
-use Rattle.polynomials.specs.Polynomials.{Polynomial, coefficient, convolution}
+use Rattle.parameters.specs.Sets.{ParameterSet, setOf}
+use Rattle.polynomials.specs.Polynomials.{Polynomial, coefficient, array, convolution}
 use Rattle.polynomials.proofs.Arrays.{array-same, array-length, coefficient-array}
 use Rattle.polynomials.proofs.Promises.{convolution-commutes, convolution-adds}
 use Rattle.packing.specs.Messages.{packed}
-use Rattle.etru.proofs.Sizes.{modulus-in-range, modulus-not-zero}
+use Rattle.etru.specs.Scheme.{sealed}
+use Rattle.etru.proofs.Passed.{Sealing, sealing-passed}
+use Rattle.etru.proofs.Products.{product-formed}
 use Rattle.etru.proofs.sealed.seal_into.Statement.{statement}
 use Rattle.etru.proofs.sealed.seal_into.Tie as tie
 
@@ -22,24 +24,38 @@ doubled N x y i =
     ∙ sym (convolution-adds N y x x i)
     ∙ convolution-commutes N y (λ j. x j +ω x j) i
 
+abbrev P : tie.Start → ParameterSet
+P s = setOf (s .args .p)
+
 -- φ × h
 abbrev product : tie.Start → Polynomial
-product s = convolution (s .args .n) (coefficient (s .args .phi .now)) (coefficient (s .args .h .now))
+product s = convolution (s .args .p .n) (coefficient (s .args .phi .now)) (coefficient (s .args .h .now))
+
+ready : (s : tie.Start) → Sealing (P s) (s .args .h .now) (s .args .phi .now) (s .args .message .now) (length (s .args .e .now))
+ready s = sealing-passed (P s) (s .args .h .now) (s .args .phi .now) (s .args .message .now) (length (s .args .e .now)) (s .pre)
+
+product-is : (c : tie.After-multiply-units) → let s = c .before .before .before in c .multiply-units .last .1 .1 .1 .0 ≡ array (s .args .p .n) (product s)
+product-is c =
+    let s = c .before .before .before in
+    let k = ready s in
+    product-formed (P s) (k .accepted) (s .args .e .now) (k .φ-units) (k .h-ready) (k .room-is) (array (s .args .p .n) (product s)) (c .multiply-units .ensures)
 
 pub seal-into-spec : {M : Type 1} → statement M
+unfolding sealed
 seal-into-spec =
     tie.close
     (tie.spec
-    (λ c κs. let s = c .before .before in ((s .pre .0 .0, s .pre .0 .2, s .pre .0 .1, s .pre .0 .4, s .pre .0 .7), s .pre .1))
+    (λ c κs. search needs)
     (λ c κs.
-    let s = c .before .before .before .before .before in
-    (s .pre .0 .0, ap length (c .before .before .convolve-units .ensures) ∙ array-length (s .args .n) (product s), s .pre .0 .3, modulus-in-range (s .fits .c) (s .fits .d) (s .pre .0 .5), modulus-not-zero (s .fits .c) (s .fits .d) (s .pre .0 .6)))
+    let m = c .before .before in
+    let s = m .before .before .before in
+    (ready s .accepted .checks, ap length (product-is m) ∙ array-length (s .args .p .n) (product s)))
     (λ c. search needs)
     (λ c.
-    let m = c .before in
-    let s = m .before .before .before .before .before .before in
-    m .add-message .ensures
-    ∙ array-same (s .args .n)
+    let m = c .before .before .before .before in
+    let s = m .before .before .before in
+    c .before .add-message .ensures
+    ∙ array-same (s .args .p .n)
     (λ i p.
-    let e = ap (λ (l : List ℤ). coefficient l i) (m .before .before .before .convolve-units .ensures) ∙ coefficient-array (s .args .n) (product s) i p in
-    ap₂ modQ (pair-read (s .fits .c) (s .fits .d)) (ap (λ (z : ℤ[ω]). z +ω packed (s .args .message .now) i) (ap₂ _+ω_ e e ∙ doubled (s .args .n) (coefficient (s .args .phi .now)) (coefficient (s .args .h .now)) i)))))
+    let e = ap (λ (l : List ℤ). coefficient l i) (product-is m) ∙ coefficient-array (s .args .p .n) (product s) i p in
+    ap (λ (z : ℤ[ω]). modQ (P s .q) (z +ω packed (s .args .message .now) i)) (ap₂ _+ω_ e e ∙ doubled (s .args .p .n) (coefficient (s .args .phi .now)) (coefficient (s .args .h .now)) i))))

@@ -1,21 +1,27 @@
 -- `sealed_at` meets its contract.
-use mathlib.Core.Path.{_∙_, ap₂}
+use mathlib.Core.Path.{_≡_, _∙_, ap, ap₂}
 use mathlib.Core.List.{List, [], _∷_}
 use Prim.Native.Nat.{_^_}
 use native.Mathlib.Omega.{arith}
+use native.Mathlib.Nat.{le-trans}
 use borrow.Author.Needs.{needs}
+use lib.Dec.{lit≤}
 use lib.IntN.{ℤ}
 use lib.Signed.{natAbs-le}
 use mir.Syntax.{w32, w64}
 use mir.Val.{SFits, toZ, ofZ}
 use mir.Facts.{toZ-ofZ}
-use Rattle.integers.proofs.Ring.{Expr, var, _⊕_}
-use Rattle.integers.proofs.Machine.{Leaf, given, fits, exact, size-read, cast-fits}
-use Rattle.eisenstein.specs.Values.{value, _+ω_}
+use Rattle.integers.proofs.Ring.{Expr, var, _⊕_, eval}
+use Rattle.integers.proofs.Machine.{Leaf, given, meanings, fits, exact, size, cast-fits}
+use Rattle.refusals.specs.Outcomes.{written}
+use Rattle.eisenstein.specs.Values.{ℤ[ω], value, 𝟘, _+ω_}
 use Rattle.eisenstein.specs.Reduction.{modQ}
+use Rattle.eisenstein.specs.Calls.{reduceQ}
+use Rattle.eisenstein.proofs.Limits.{not-beyond, remainder-is}
 use Rattle.eisenstein.proofs.Pairs.{pair-read}
+use Rattle.parameters.specs.Sets.{setOf}
+use Rattle.parameters.proofs.AcceptedParameters.{accepted-parameters, modulus-nonzero}
 use Rattle.polynomials.specs.Polynomials.{coefficient}
-use Rattle.etru.proofs.Sizes.{modulus-in-range, modulus-not-zero}
 use Rattle.etru.proofs.sealed.sealed_at.Statement.{statement}
 use Rattle.etru.proofs.sealed.sealed_at.Tie as tie
 
@@ -28,6 +34,10 @@ a-fits c = search needs
 
 b-fits : (c : tie.After-pair-of) → SFits w32 (c .pair-of .result .b)
 b-fits c = search needs
+
+-- the modulus as it is handed on
+modulus-read : (c : tie.After-struct-told2) → let p = c .before .before .before .args .p in value (toZ w32 (ofZ w32 (p .c))) (toZ w32 (ofZ w32 (p .d))) ≡ setOf p .q
+modulus-read c = pair-read (search needs) (search needs)
 
 -- the numbers that each part of the sum is computed from
 abbrev ρ-a : tie.After-pair-of → List Leaf
@@ -42,8 +52,23 @@ twice = var 0 ⊕ var 0
 abbrev part : Expr
 part = twice ⊕ var 1
 
-pub sealed-at-spec : {M : Type 1} → statement M
+abbrev sum : tie.After-pair-of → ℤ[ω]
+sum c = value (eval (meanings (ρ-a c)) part) (eval (meanings (ρ-b c)) part)
+
+returns : tie.Need-returns
 unfolding _+ω_ coefficient
+returns c =
+    let m = c .before .before .before in
+    let s = m .before .before .before .before .before .before in
+    let P = setOf (s .args .p) in
+    let a = accepted-parameters P (s .pre .0) in
+    let p = ap₂ value (m .before .before .at .ensures .0) (m .before .at2 .ensures .0) in
+    c .remainder-q .ensures
+    ∙ ap₂ (λ (q x : ℤ[ω]). written (reduceQ q x) 𝟘) (modulus-read (m .before .before .before)) (ap₂ value (exact w64 (ρ-a m) part tt) (exact w64 (ρ-b m) part tt))
+    ∙ remainder-is (P .q) (sum m) (a .q-small) (modulus-nonzero P a) (not-beyond (2 ^ 40) (sum m) (le-trans (size w64 (ρ-a m) part tt) (lit≤ tt)) (le-trans (size w64 (ρ-b m) part tt) (lit≤ tt)))
+    ∙ ap (modQ (P .q)) (ap₂ _+ω_ (ap₂ _+ω_ p p) (m .pair-of .ensures))
+
+pub sealed-at-spec : {M : Type 1} → statement M
 sealed-at-spec =
     tie.close
     (tie.spec
@@ -52,20 +77,13 @@ sealed-at-spec =
     (λ c. search needs)
     (λ c. search needs)
     (λ c κs. search needs)
-    (λ c κs. (omega arith, omega arith))
+    (λ c. search needs)
+    (λ c κs. search needs)
     (λ c. fits w64 (ρ-a (c .before .before)) twice tt)
     (λ c. cast-fits tt (a-fits (c .before .before)))
     (λ c. fits w64 (ρ-a (c .before .before)) part tt)
     (λ c. fits w64 (ρ-b (c .before .before)) twice tt)
     (λ c. cast-fits tt (b-fits (c .before .before)))
     (λ c. fits w64 (ρ-b (c .before .before)) part tt)
-    (λ c κs.
-    let m = c .before .before in
-    let s = c .before .before .before .before .before .before in
-    (size-read w64 (ρ-a m) part (2 ^ 40) tt tt, size-read w64 (ρ-b m) part (2 ^ 40) tt tt, modulus-in-range (s .fits .c) (s .fits .d) (s .pre .4), modulus-not-zero (s .fits .c) (s .fits .d) (s .pre .5)))
-    (λ c.
-    let m = c .before .before .before in
-    let s = c .before .before .before .before .before .before .before in
-    let p = ap₂ value (m .before .before .at .ensures .0) (m .before .at2 .ensures .0) in
-    c .reduced-q .ensures
-    ∙ ap₂ modQ (pair-read (s .fits .c) (s .fits .d)) (ap₂ value (exact w64 (ρ-a m) part tt) (exact w64 (ρ-b m) part tt) ∙ ap₂ _+ω_ (ap₂ _+ω_ p p) (m .pair-of .ensures))))
+    (λ c κs. search needs)
+    returns)
