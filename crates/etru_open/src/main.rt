@@ -9,6 +9,7 @@ ghost use lib.ListN.{length};
 ghost use Rattle.io.specs.Counts.{clamped};
 use libc::STDIN_FILENO;
 use libc::STDOUT_FILENO;
+use refusals::Answer;
 
 // Two files have at most 16 + 16 × 1,024 and 16 + 4 × 1,024 bytes, 20,512 in all. Of a longer input the first 20,513 bytes give the same line (`Long-input-line` of the crate `opening`), so the rest is read and left.
 fn input_buffer() -> [u8; 20513]
@@ -69,6 +70,7 @@ fn main() {
     }
     let mut line = line_buffer();
     let mut used = 0;
-    opening::open_files(&input[..n], &mut line, &mut used);
+    // the line has its room, so nothing is refused
+    let _answer: Answer = opening::open_files(&input[..n], &mut line, &mut used);
     io::write_all(STDOUT_FILENO, &line[..used]);
 }

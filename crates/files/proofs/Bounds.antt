@@ -1,4 +1,4 @@
--- How long a file can be: at most four arrays of at most 1,024 coefficients.
+-- How long a file can be: at most four arrays, of at most 1,024 coefficients where N is accepted.
 use mathlib.Core.Path.{subst}
 use Prim.Native.Nat.{ℕ, _+_, _*_, _≤_, _<_}
 use native.Mathlib.Omega.{arith}
@@ -7,12 +7,12 @@ use lib.ListN.{length}
 use Rattle.files.specs.Files.{arraysOf, fileNumbers}
 use Rattle.files.proofs.ArraysOfKinds.{at-most-four}
 
-pub four-arrays : (n k : ℕ) → n ≤ 1024 → k ≤ 4 → 4 * n * k ≤ 16384
-four-arrays n k h l = mul-le-mul {n₁ = 4 * n} {n₂ = 4096} (omega arith) l
+pub four-arrays : (n k b : ℕ) → n ≤ b → k ≤ 4 → 4 * n * k ≤ 4 * b * 4
+four-arrays n k b h l = mul-le-mul {n₁ = 4 * n} {n₂ = 4 * b} (omega arith) l
 
 pub numbers-few : (kind n : ℕ) → n ≤ 1024 → fileNumbers kind n ≤ 8192
 unfolding fileNumbers
-numbers-few kind n h = omega (arith, four-arrays n (length (arraysOf kind)) h (at-most-four kind))
+numbers-few kind n h = omega (arith, four-arrays n (length (arraysOf kind)) 1024 h (at-most-four kind))
 
 -- array k ends within the numbers
 pub end-of-array : (kind n k : ℕ) → k < length (arraysOf kind) → 2 * n * k + 2 * n ≤ fileNumbers kind n

@@ -1,6 +1,6 @@
 pub mod ArraysOfKinds
 pub mod Bounds
-pub mod Filling
+pub mod Given
 pub mod Handed
 pub mod Lists
 pub mod Numbers

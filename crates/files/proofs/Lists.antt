@@ -7,19 +7,19 @@ use native.Mathlib.Decide.{decLt}
 use lib.Dec.{T, lit≤}
 use lib.IntN.{ℤ, pos, natAbs}
 use lib.ListN.{length, getD, take, drop, length-take, length-drop}
-use lib.Seq.{getD-take, getD-drop}
-use Rattle.refusals.specs.Outcomes.{done, outcome}
+use lib.Seq.{take-all, getD-take, getD-drop}
+use Rattle.refusals.specs.Outcomes.{Passes}
 use Rattle.refusals.proofs.Checks.{done-holds}
 use Rattle.parameters.specs.Sets.{ParameterSet}
 use Rattle.polynomials.specs.Polynomials.{coefficient}
 use Rattle.polynomials.proofs.Members.{sum-zero-units}
 use Rattle.packing.specs.Promises.{Bytes}
-use Rattle.etru.specs.Calls.{inSet, notInSet}
-use Rattle.etru.specs.declared.ArraySet.{ArraySet}
-use Rattle.etru.specs.declared.ArraySet.the-variants.{F, G, ReducedModulo2, ReducedModuloQ}
-use Rattle.etru.proofs.AcceptedParameters.{Accepted, modulus-nonzero}
-use Rattle.etru.proofs.Sizes.{Small, units-small, reduced2-small, reducedQ-small}
-use Rattle.files.specs.Files.{bytes16, bits16, signed16, unsignedAt, signedAt, numbersFrom, bytesOf}
+use Rattle.arrays.specs.Arrays.{Small, inSet, notInSet}
+use Rattle.arrays.specs.declared.ArraySet.{ArraySet}
+use Rattle.arrays.specs.declared.ArraySet.the-variants.{F, G, Phi, ReducedModulo2, ReducedModuloQ}
+use Rattle.parameters.proofs.AcceptedParameters.{Accepted, modulus-nonzero}
+use Rattle.arrays.proofs.Sizes.{units-small, reduced2-small, reducedQ-small}
+use Rattle.files.specs.Files.{bytes16, number16, bits16, signed16, unsignedAt, signedAt, numbersFrom, arrayAt, bytesOf}
 use Rattle.files.specs.Calls.{setChecks}
 use Rattle.files.proofs.Numbers.{Fits16, fits-small, signed-bits, bits-signed, number-bytes, bytes-number, number-lt}
 
@@ -47,6 +47,11 @@ bytes-low (z ∷ l) zero = refl
 bytes-low (z ∷ l) (suc i) =
     ap (λ (k : ℕ). getD (bytesOf (z ∷ l)) k 0) {x = 2 * suc i + 1} {y = suc (suc (2 * i + 1))} (omega arith) ∙ bytes-low l i
 
+-- ---- the rest of a list from place n on, as it is lent
+
+pub rest-taken : (n : ℕ) (l : List ℕ) → take (length l - n) (drop n l) ≡ drop n l
+rest-taken n l = take-all (length l - n) (drop n l) (omega (arith, length-drop n l))
+
 -- ---- lengths
 
 pub bytes-length : (l : List ℤ) → length (bytesOf l) ≡ 2 * length l
@@ -59,6 +64,33 @@ unfolding numbersFrom
 numbers-length [] = refl
 numbers-length (high ∷ []) = refl
 numbers-length (high ∷ low ∷ l) = omega (arith, numbers-length l)
+
+-- ---- parts
+
+two-more : (k : ℕ) → 2 * suc k ≡ suc (suc (2 * k))
+two-more k = omega arith
+
+pub numbers-drop : (k : ℕ) (l : List ℕ) → numbersFrom (drop (2 * k) l) ≡ drop k (numbersFrom l)
+unfolding numbersFrom
+numbers-drop zero l = refl
+numbers-drop (suc k) [] = rw two-more
+numbers-drop (suc k) (high ∷ []) = rw two-more
+numbers-drop (suc k) (high ∷ low ∷ l) = rw two-more (numbers-drop k l)
+
+pub numbers-take : (k : ℕ) (l : List ℕ) → numbersFrom (take (2 * k) l) ≡ take k (numbersFrom l)
+unfolding numbersFrom
+numbers-take zero l = refl
+numbers-take (suc k) [] = rw two-more
+numbers-take (suc k) (high ∷ []) = rw two-more
+numbers-take (suc k) (high ∷ low ∷ l) = rw two-more (ap (λ (r : List ℤ). signed16 (number16 high low) ∷ r) (numbers-take k l))
+
+-- array k of the numbers, by its bytes
+pub array-numbers : (p : ParameterSet) (k : ℕ) (bytes : List ℕ) (n from : ℕ) → n ≡ 4 * p .N → from ≡ 4 * p .N * k → numbersFrom (take n (drop from bytes)) ≡ arrayAt p k (numbersFrom bytes)
+unfolding arrayAt
+array-numbers p k bytes n from e f =
+    let e′ : n ≡ 2 * (2 * p .N) = omega arith in
+    let f′ : from ≡ 2 * (2 * p .N * k) = omega arith in
+    rw (e′, f′, numbers-take, numbers-drop)
 
 -- ---- both ways
 
@@ -87,6 +119,7 @@ fitting-small l h k = fits-small (getD l k (pos 0)) (h k)
 pub set-small : (p : ParameterSet) → Accepted p → (a : ArraySet) (x : List ℤ) → length x ≡ 2 * p .N → T (inSet p a x) → Small x
 set-small p ok F x e t = units-small (p .N) (p .t) x e t
 set-small p ok G x e t = units-small (p .N) (p .s) x e (sum-zero-units (p .N) (p .s) (coefficient x) t)
+set-small p ok Phi x e t = units-small (p .N) (p .s) x e (sum-zero-units (p .N) (p .s) (coefficient x) t)
 set-small p ok ReducedModulo2 x e t = reduced2-small (p .N) x e t
 set-small p ok ReducedModuloQ x e t = reducedQ-small (p .N) (p .q) x (ok .q-small) (modulus-nonzero p ok) e t
 
@@ -99,7 +132,7 @@ small-joined n l h r k = go (decLt k n)
         let e : n + (k - n) ≡ k = omega arith in
         rw (getD-drop, e) at (r (k - n))
 
-pub arrays-small : (p : ParameterSet) → Accepted p → (sets : List ArraySet) (l : List ℤ) → length l ≡ 2 * p .N * length sets → outcome (setChecks p sets l) (tt {0}) ≡ done (tt {0}) → Small l
+pub arrays-small : (p : ParameterSet) → Accepted p → (sets : List ArraySet) (l : List ℤ) → length l ≡ 2 * p .N * length sets → Passes (setChecks p sets l) → Small l
 unfolding setChecks
 arrays-small p ok [] [] e c = λ k. lit≤ tt
 arrays-small p ok [] (z ∷ l) e c = absurd (omega arith)

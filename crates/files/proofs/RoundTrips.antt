@@ -1,6 +1,6 @@
 -- Reading and writing undo each other.
 use mathlib.Core.Path.{_≡_, refl, sym, _∙_, ap, ap₂, subst}
-use mathlib.Core.Bool.{Bool, false, not, _&&_}
+use mathlib.Core.Bool.{_&&_}
 use mathlib.Core.List.{List, [], _∷_, _++_}
 use Prim.Native.Nat.{ℕ, zero, suc, _+_, _*_, _/_, _%_, _≤_, _<_}
 use native.Mathlib.Omega.{arith}
@@ -10,15 +10,15 @@ use lib.IntN.{ℤ}
 use lib.ListN.{length, getD, take, drop, length-drop, take-append-drop}
 use lib.Seq.{getD-drop}
 use mir.Facts.{yes-and}
-use Rattle.refusals.specs.Outcomes.{done, outcome}
-use Rattle.refusals.proofs.Checks.{passed, holds-passed, none-left, done-passed, done-parts, done-all, passed-all, done-with}
-use Rattle.parameters.specs.Sets.{ParameterSet, set, outside, parameterChecks}
-use Rattle.parameters.proofs.Ranges.{in-range}
+use Rattle.refusals.specs.Outcomes.{done, Passes}
+use Rattle.refusals.proofs.Checks.{passed, holds-passed, none-left, done-holds, done-parts, done-all, passed-all, done-with}
+use Rattle.parameters.specs.Sets.{ParameterSet, set, parameterChecks}
 use Rattle.packing.specs.Messages.{listed}
 use Rattle.packing.specs.Promises.{Bytes}
-use Rattle.files.specs.Files.{bytes16, number16, bits16, signed16, unsignedAt, signedAt, headOf, numbersFrom, headBytes, bytesOf, fileOf}
-use Rattle.files.specs.Calls.{marked, versionOne, headChecks, readingHead, contentChecks, readingChecks, reading, writingChecks, writing}
+use Rattle.files.specs.Files.{knownKind, headLength, bytes16, number16, bits16, signed16, unsignedAt, signedAt, headOf, numbersOf, headBytes, bytesOf, fileOf}
+use Rattle.files.specs.Calls.{marked, versionOne, headChecks, readingHead, readingChecks, reading, givenChecks, writingChecks, writing}
 use Rattle.files.specs.Promises.{Reading-undoes-writing, Writing-undoes-reading, Written-bytes}
+use Rattle.files.proofs.ArraysOfKinds.{kind-small}
 use Rattle.files.proofs.Numbers.{Fits16, signed-bits, bits-signed, bits-lt, number-bytes, bytes-number, number-lt}
 use Rattle.files.proofs.Lists.{Fitting, fitting-small, bytes-length, numbers-length, numbers-of-bytes, bytes-of-numbers}
 use Rattle.files.proofs.Passed.{Head, head-passed, PartsFit, parts-fit, contents-passed, contents-small, file-bytes}
@@ -35,36 +35,36 @@ module _ (kind : ℕ) (p : ParameterSet) (l : List ℤ) where
       signed : {z : ℤ} → Fits16 z → signed16 (number16 (bits16 z / 256) (bits16 z % 256)) ≡ z
       signed {z} g = ap signed16 (number-bytes (bits16 z)) ∙ signed-bits g
 
-  pub written-numbers : Fitting l → numbersFrom (drop 16 (fileOf kind p l)) ≡ l
+  pub written-numbers : Fitting l → numbersOf (fileOf kind p l) ≡ l
   unfolding fileOf headBytes bytes16
   written-numbers f = numbers-of-bytes l f
 
-  pub written-length : length (fileOf kind p l) ≡ 16 + 2 * length l
+  pub written-length : length (fileOf kind p l) ≡ headLength + 2 * length l
   unfolding fileOf headBytes bytes16
   written-length = omega (arith, bytes-length l)
 
-  written-head-passed : outside 1 3 kind ≡ false → outcome (headChecks kind (fileOf kind p l)) (tt {0}) ≡ done (tt {0})
-  unfolding headChecks marked versionOne fileOf headBytes
+  written-head-passed : T (knownKind kind) → Passes (headChecks kind (fileOf kind p l))
+  unfolding headChecks marked versionOne unsignedAt number16 fileOf headBytes bytes16
   written-head-passed k =
-      passed 16 _ _ (le-ltb (length (fileOf kind p l)) 16 (omega (arith, written-length)))
+      passed 16 _ _ (le-ltb (length (fileOf kind p l)) headLength (omega (arith, written-length)))
       ∙ holds-passed 17 (marked (fileOf kind p l)) _ _ tt
       ∙ holds-passed 18 (versionOne (fileOf kind p l)) _ _ tt
-      ∙ holds-passed 19 (not (outside 1 3 kind) && eqb kind kind) _ _ (yes-and (not (outside 1 3 kind)) (eqb kind kind) (subst (λ (t : Bool). T (not t)) (sym k) tt) (eqb-refl kind))
+      ∙ holds-passed 19 (knownKind kind && eqb kind kind) _ _ (yes-and (knownKind kind) (eqb kind kind) k (eqb-refl kind))
       ∙ none-left _
 
   -- what writing has passed
   record Written : Type 0 where
-    known : outside 1 3 kind ≡ false
-    parameters : outcome (parameterChecks p) (tt {0}) ≡ done (tt {0})
-    contents : outcome (contentChecks kind p l (length l) (length (fileOf kind p l))) (tt {0}) ≡ done (tt {0})
+    known : T (knownKind kind)
+    parameters : Passes (parameterChecks p)
+    contents : Passes (givenChecks kind p l (length (fileOf kind p l)))
     parts : PartsFit p
     fitting : Fitting l
 
-  writing-passed : (room : ℕ) → outcome (writingChecks kind p l room) (tt {0}) ≡ done (tt {0}) → Written
+  writing-passed : (room : ℕ) → Passes (writingChecks kind p l room) → Written
   unfolding writingChecks
   writing-passed room e =
-      let k19 = done-passed 19 (outside 1 3 kind) _ _ _ e in
-      let k = done-all (parameterChecks p) (contentChecks kind p l (length l) room) _ _ (k19 .1) in
+      let k19 = done-holds 19 (knownKind kind) _ _ _ e in
+      let k = done-all (parameterChecks p) (givenChecks kind p l room) _ _ (k19 .1) in
       let c = contents-passed kind p l (length l) room (k .1) in
       let r : room ≡ length (fileOf kind p l) = omega (arith, c .file-is, c .numbers-are, file-bytes kind (p .N), written-length) in
       record {
@@ -114,7 +114,7 @@ bytes-of-list [] f = λ i. lit< tt
 bytes-of-list (z ∷ l) f =
     bytes-append (bytes16 (bits16 z)) (bytesOf l) (omega (arith, bits-lt (f 0))) (bytes-of-list l (λ k. f (suc k)))
 
-bytes-of-file : (kind : ℕ) (p : ParameterSet) (l : List ℤ) → kind ≤ 3 → PartsFit p → Fitting l → Bytes (fileOf kind p l)
+bytes-of-file : (kind : ℕ) (p : ParameterSet) (l : List ℤ) → kind < 256 → PartsFit p → Fitting l → Bytes (fileOf kind p l)
 unfolding fileOf headBytes bytes16
 bytes-of-file kind p l k f g =
     bytes-append (headBytes kind p) (bytesOf l) (omega (arith, bits-lt (f .c-fits), bits-lt (f .d-fits))) (bytes-of-list l g)
@@ -124,7 +124,7 @@ unfolding writing
 written-bytes kind p l room file e =
     let d = done-parts (writingChecks kind p l room) (fileOf kind p l) file e in
     let w = writing-passed kind p l room (d .0) in
-    subst Bytes (d .1) (bytes-of-file kind p l (in-range 1 3 kind (w .known)) (w .parts) (w .fitting))
+    subst Bytes (d .1) (bytes-of-file kind p l (kind-small kind (w .known)) (w .parts) (w .fitting))
 
 -- ---- a file that is read
 
@@ -144,40 +144,38 @@ module _ (file : List ℕ) (bytes : Bytes file) where
   unfolding signedAt unsignedAt
   signed-bytes k = ap bytes16 (bits-signed (number-lt (bytes k) (bytes (suc k)))) ∙ unsigned-bytes k
 
-  read-head : (kind : ℕ) → Head kind file → headBytes kind (headOf file) ≡ take 16 file
+  read-head : (kind : ℕ) → Head kind file → headBytes kind (headOf file) ≡ take headLength file
   unfolding headOf headBytes listed
   read-head kind h =
       (λ i.
       sym (h .mark .0) i
       ∷ sym (h .mark .1) i
       ∷ sym (h .mark .2) i
-      ∷ sym (h .version .0) i
-      ∷ sym (h .version .1) i
-      ∷ sym (h .kind-is) i
-      ∷ unsigned-bytes 6 i ++ (signed-bytes 8 i ++ (signed-bytes 10 i ++ (unsigned-bytes 12 i ++ unsigned-bytes 14 i))))
-      ∙ sym (firsts 16 file (h .long))
+      ∷ (ap bytes16 (sym (h .version-is)) ∙ unsigned-bytes 3) i
+      ++ (sym (h .kind-is) i ∷ unsigned-bytes 6 i ++ (signed-bytes 8 i ++ (signed-bytes 10 i ++ (unsigned-bytes 12 i ++ unsigned-bytes 14 i)))))
+      ∙ sym (firsts headLength file (h .long))
 
-  read-rest : length file % 2 ≡ 0 → bytesOf (numbersFrom (drop 16 file)) ≡ drop 16 file
+  read-rest : length file % 2 ≡ 0 → bytesOf (numbersOf file) ≡ drop headLength file
   read-rest e =
-      bytes-of-numbers (drop 16 file) (λ k. rw getD-drop (bytes (16 + k))) (omega (arith, length-drop 16 file))
+      bytes-of-numbers (drop headLength file) (λ k. rw getD-drop (bytes (headLength + k))) (omega (arith, length-drop headLength file))
 
-  read-file : (kind : ℕ) → Head kind file → length file % 2 ≡ 0 → fileOf kind (headOf file) (numbersFrom (drop 16 file)) ≡ file
+  read-file : (kind : ℕ) → Head kind file → length file % 2 ≡ 0 → fileOf kind (headOf file) (numbersOf file) ≡ file
   unfolding fileOf
-  read-file kind h e = ap₂ _++_ (read-head kind h) (read-rest e) ∙ take-append-drop 16 file
+  read-file kind h e = ap₂ _++_ (read-head kind h) (read-rest e) ∙ take-append-drop headLength file
 
 pub writing-undoes-reading : Writing-undoes-reading
 unfolding readingHead reading readingChecks writing writingChecks
 writing-undoes-reading kind file room l bytes e =
-    let d = done-parts (readingChecks kind file room) (numbersFrom (drop 16 file)) l e in
+    let d = done-parts (readingChecks kind file room) (numbersOf file) l e in
     let k = done-all (headChecks kind file) _ _ _ (d .0) in
     let h = head-passed kind file (k .0) in
     let m = done-all (parameterChecks (headOf file)) _ _ _ (k .1) in
-    let c = contents-passed kind (headOf file) (numbersFrom (drop 16 file)) room (length file) (m .1) in
-    let r : room ≡ length (numbersFrom (drop 16 file)) = omega (arith, numbers-length (drop 16 file), length-drop 16 file, c .file-is, c .numbers-are, file-bytes kind (headOf file .N)) in
+    let c = contents-passed kind (headOf file) (numbersOf file) room (length file) (m .1) in
+    let r : room ≡ length (numbersOf file) = omega (arith, numbers-length (drop headLength file), length-drop headLength file, c .file-is, c .numbers-are, file-bytes kind (headOf file .N)) in
     let w =
     subst (λ (x : List ℤ). writing kind (headOf file) x (length file) ≡ done file) (d .1)
-    (passed 19 _ _ (h .known)
+    (holds-passed 19 (knownKind kind) _ _ (h .known)
     ∙ passed-all (parameterChecks (headOf file)) _ _ (m .0)
-    ∙ done-with (contentChecks kind (headOf file) (numbersFrom (drop 16 file)) (length (numbersFrom (drop 16 file))) (length file)) _ (rw r at (m .1))
+    ∙ done-with (givenChecks kind (headOf file) (numbersOf file) (length file)) _ (rw r at (m .1))
     ∙ ap done (read-file file bytes kind h (omega (arith, c .file-is, file-bytes kind (headOf file .N))))) in
     (passed-all (headChecks kind file) (parameterChecks (headOf file)) (headOf file) (k .0) ∙ done-with (parameterChecks (headOf file)) (headOf file) (m .0), w)

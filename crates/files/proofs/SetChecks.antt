@@ -1,6 +1,5 @@
 -- The checks of a file's arrays, array by array.
 use mathlib.Core.Path.{_≡_, sym, _∙_, ap, ap₂}
-use mathlib.Core.Bool.{not}
 use mathlib.Core.List.{List, [], _∷_}
 use Prim.Native.Nat.{ℕ, _+_, _*_, _<_}
 use native.Mathlib.Nat.{mul-zero, mul-suc}
@@ -8,25 +7,14 @@ use native.Mathlib.Numerals.{add-one}
 use lib.IntN.{ℤ}
 use lib.ListN.{length, getD, drop}
 use lib.Seq.{drop-cons, drop-drop, drop-length}
-use mir.Facts.{yes-eqb}
-use Rattle.refusals.specs.Outcomes.{Check, _if_, done, refused, outcome}
-use Rattle.refusals.proofs.Checks.{passed-all, refused-first, holds-passed, none-left}
-use Rattle.parameters.specs.Sets.{ParameterSet, parameterChecks}
-use Rattle.etru.specs.declared.ArraySet.{ArraySet}
-use Rattle.etru.specs.declared.ArraySet.the-variants.{ReducedModuloQ}
-use Rattle.etru.specs.Calls.{full, inSet, notInSet, arrayChecks, arrayCheck}
+use Rattle.refusals.specs.Outcomes.{Check, refused, outcome, Passes}
+use Rattle.refusals.proofs.Checks.{passed-all, refused-first, none-left}
+use Rattle.parameters.specs.Sets.{ParameterSet}
+use Rattle.arrays.specs.declared.ArraySet.{ArraySet}
+use Rattle.arrays.specs.declared.ArraySet.the-variants.{ReducedModuloQ}
+use Rattle.arrays.proofs.ArrayChecks.{own}
 use Rattle.files.specs.Files.{arrayAt}
 use Rattle.files.specs.Calls.{setChecks}
-
--- the check of one array in its set
-abbrev pub own : ParameterSet → ArraySet → List ℤ → Check
-own p a x = notInSet a if not (inSet p a x)
-
--- `arrayCheck` of an array of the right length, where the parameters are accepted
-pub own-check : (p : ParameterSet) (a : ArraySet) (x : List ℤ) → outcome (parameterChecks p) (tt {0}) ≡ done (tt {0}) → length x ≡ 2 * p .N → arrayCheck p a x ≡ outcome (own p a x ∷ []) (tt {0})
-unfolding arrayCheck arrayChecks
-own-check p a x h e =
-    passed-all (parameterChecks p) (arrayChecks p a x) tt h ∙ holds-passed 7 (full (p .N) (length x)) (own p a x ∷ []) tt (yes-eqb e)
 
 module _ (p : ParameterSet) (arrays : List ArraySet) (l : List ℤ) where
   -- the set of array k, and the checks from array k on
@@ -45,13 +33,13 @@ module _ (p : ParameterSet) (arrays : List ArraySet) (l : List ℤ) where
       ap (λ (r : List ArraySet). setChecks p r (drop (2 * p .N * k) l)) (drop-cons arrays k ReducedModuloQ h)
       ∙ ap₂ (λ (r : List ArraySet) (x : List ℤ). own p (set-at k) (arrayAt p k l) ∷ setChecks p r x) (ap (λ (i : ℕ). drop i arrays) (sym (add-one k))) (drop-drop (2 * p .N) (2 * p .N * k) l ∙ ap (λ (i : ℕ). drop i l) (sym (mul-suc (2 * p .N) k) ∙ ap (λ (i : ℕ). 2 * p .N * i) (sym (add-one k))))
 
-  pub array-passed : (k : ℕ) → k < length arrays → outcome (own p (set-at k) (arrayAt p k l) ∷ []) (tt {0}) ≡ done (tt {0}) → outcome (from-array k) (tt {0}) ≡ outcome (from-array (k + 1)) (tt {0})
+  pub array-passed : (k : ℕ) → k < length arrays → Passes (own p (set-at k) (arrayAt p k l) ∷ []) → outcome (from-array k) (tt {0}) ≡ outcome (from-array (k + 1)) (tt {0})
   array-passed k h e = ap (λ (cs : List Check). outcome cs (tt {0})) (next-array k h) ∙ passed-all (own p (set-at k) (arrayAt p k l) ∷ []) (from-array (k + 1)) tt e
 
   pub array-refused : (k n : ℕ) → k < length arrays → outcome (own p (set-at k) (arrayAt p k l) ∷ []) (tt {0}) ≡ refused n → outcome (from-array k) (tt {0}) ≡ refused n
   array-refused k n h e = ap (λ (cs : List Check). outcome cs (tt {0})) (next-array k h) ∙ refused-first (own p (set-at k) (arrayAt p k l) ∷ []) (from-array (k + 1)) tt n e
 
-  pub all-arrays-passed : (k : ℕ) → k ≡ length arrays → outcome (from-array k) (tt {0}) ≡ done (tt {0})
+  pub all-arrays-passed : (k : ℕ) → k ≡ length arrays → Passes (from-array k)
   unfolding setChecks
   all-arrays-passed k e =
       ap (λ (r : List ArraySet). outcome (setChecks p r (drop (2 * p .N * k) l)) (tt {0})) (ap (λ (i : ℕ). drop i arrays) e ∙ drop-length arrays) ∙ none-left tt

@@ -1,27 +1,38 @@
--- Files (document 01, 'Files'): heads, kinds, and numbers as bytes.
-use mathlib.Core.Bool.{cond}
+-- Files (document 01, 'Files'): kinds, heads, and numbers as bytes.
+use mathlib.Core.Bool.{Bool, cond}
 use mathlib.Core.List.{List, [], _∷_, _++_}
 use Prim.Native.Nat.{ℕ, suc, _+_, _-_, _*_, _/_, _%_}
 use lib.Dec.{ltb, eqb}
 use lib.IntN.{ℤ, pos, negsuc}
 use lib.ListN.{length, getD, take, drop}
 use Rattle.parameters.specs.Sets.{ParameterSet, set}
-use Rattle.etru.specs.declared.ArraySet.{ArraySet}
-use Rattle.etru.specs.declared.ArraySet.the-variants.{F, G, ReducedModulo2, ReducedModuloQ}
+use Rattle.arrays.specs.declared.ArraySet.{ArraySet}
+use Rattle.arrays.specs.declared.ArraySet.the-variants.{F, G, ReducedModulo2, ReducedModuloQ}
 
--- "Kind 1, public: h. Kind 2, private: f, F2, Fq, g. Kind 3, sealed: e." The set of each array, in stored order; any other kind has none.
+-- "Kind 1, public: h. Kind 2, private: f, F2, Fq, g. Kind 3, sealed: e." The set of each array, in stored order.
 unfoldable pub arraysOf : ℕ → List ArraySet
 arraysOf kind =
     cond (eqb kind 1) (ReducedModuloQ ∷ [])
     (cond (eqb kind 2) (F ∷ ReducedModulo2 ∷ ReducedModuloQ ∷ G ∷ [])
     (cond (eqb kind 3) (ReducedModuloQ ∷ []) []))
 
+-- "1 to 3": the kinds are the numbers that have arrays.
+abbrev pub knownKind : ℕ → Bool
+knownKind kind = ltb 0 (length (arraysOf kind))
+
+-- A head takes bytes 0 to 15, and says "version 1".
+abbrev pub headLength : ℕ
+headLength = 16
+
+abbrev pub version : ℕ
+version = 1
+
 -- "Then arrays of 2N signed 16-bit numbers." "Length: 16 + 4N bytes per array."
 unfoldable pub fileNumbers : ℕ → ℕ → ℕ
 fileNumbers kind N = 2 * N * length (arraysOf kind)
 
 unfoldable pub fileBytes : ℕ → ℕ → ℕ
-fileBytes kind N = 16 + 4 * N * length (arraysOf kind)
+fileBytes kind N = headLength + 4 * N * length (arraysOf kind)
 
 -- "Numbers are big-endian": the two bytes of a 16-bit number, and the number of two bytes.
 unfoldable pub bytes16 : ℕ → List ℕ
@@ -49,11 +60,14 @@ signedAt file k = signed16 (unsignedAt file k)
 unfoldable pub headOf : List ℕ → ParameterSet
 headOf file = set (unsignedAt file 6) (signedAt file 8) (signedAt file 10) (unsignedAt file 12) (unsignedAt file 14)
 
--- The numbers of the arrays, one after another.
+-- The numbers of bytes, and those of a file's arrays, one after another.
 unfoldable pub numbersFrom : List ℕ → List ℤ
 numbersFrom [] = []
 numbersFrom (high ∷ []) = []
 numbersFrom (high ∷ low ∷ rest) = signed16 (number16 high low) ∷ numbersFrom rest
+
+abbrev pub numbersOf : List ℕ → List ℤ
+numbersOf file = numbersFrom (drop headLength file)
 
 -- Array k of them.
 unfoldable pub arrayAt : ParameterSet → ℕ → List ℤ → List ℤ
@@ -62,7 +76,7 @@ arrayAt p k numbers = take (2 * p .N) (drop (2 * p .N * k) numbers)
 -- The other way: "Bytes 0–2: the letters EIZ. 3–4: version 1. 5: kind." Then the parameters, then the arrays.
 unfoldable pub headBytes : ℕ → ParameterSet → List ℕ
 headBytes kind p =
-    69 ∷ 73 ∷ 90 ∷ 0 ∷ 1 ∷ kind ∷ bytes16 (p .N) ++ (bytes16 (bits16 (p .q .a)) ++ (bytes16 (bits16 (p .q .b)) ++ (bytes16 (p .s) ++ bytes16 (p .t))))
+    69 ∷ 73 ∷ 90 ∷ bytes16 version ++ (kind ∷ bytes16 (p .N) ++ (bytes16 (bits16 (p .q .a)) ++ (bytes16 (bits16 (p .q .b)) ++ (bytes16 (p .s) ++ bytes16 (p .t)))))
 
 unfoldable pub bytesOf : List ℤ → List ℕ
 bytesOf [] = []

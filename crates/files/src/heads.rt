@@ -1,27 +1,29 @@
 // The head of a file: its mark, version and kind, and the parameters.
 ghost use mathlib.Core.Path.{_≡_};
-ghost use mathlib.Core.Bool.{false, not, _&&_};
+ghost use mathlib.Core.Bool.{_&&_};
 ghost use mathlib.Core.List.{_∷_, _++_};
 ghost use Prim.Native.Nat.{_<_, _≤_};
-ghost use lib.Dec.{eqb};
+ghost use lib.Dec.{T, eqb};
 ghost use lib.ListN.{length, getD, drop};
-ghost use Rattle.refusals.specs.Outcomes.{done, outcome};
+ghost use Rattle.refusals.specs.Outcomes.{outcome, Passes};
 ghost use Rattle.refusals.specs.Numbers.{answered};
-ghost use Rattle.parameters.specs.Sets.{setOf, outside, parameterChecks, parameters, made};
-ghost use Rattle.files.specs.Files.{bytes16, headOf, headBytes};
+ghost use Rattle.parameters.specs.Sets.{setOf, parameterChecks, parameters, made};
+ghost use Rattle.files.specs.Files.{knownKind, headLength, version, bytes16, headOf, headBytes};
 ghost use Rattle.files.specs.Calls.{marked, versionOne, headChecks};
-use crate::PUBLIC;
-use crate::SEALED;
+use crate::HEAD_BYTES;
 use crate::bytes::bits_of;
 use crate::bytes::signed_at;
 use crate::bytes::unsigned_at;
+use crate::kinds::known_kind;
 use parameters::Made;
 use parameters::Parameters;
 use refusals::Answer;
 use refusals::Refusal;
 
+const VERSION: u32 = 1;
+
 fn marked_eiz(file: &[u8]) -> bool
-    requires { ⌜ 16 ≤ length (now file) ⌝ }
+    requires { ⌜ headLength ≤ length (now file) ⌝ }
     ensures { λ r. ⌜ r ≡ marked (now (file .entry)) ⌝ }
 {
     if file[0] == b'E' {
@@ -33,29 +35,26 @@ fn marked_eiz(file: &[u8]) -> bool
 }
 
 fn version_one(file: &[u8]) -> bool
-    requires { ⌜ 16 ≤ length (now file) ⌝ }
+    requires { ⌜ headLength ≤ length (now file) ⌝ }
     ensures { λ r. ⌜ r ≡ versionOne (now (file .entry)) ⌝ }
 {
-    if file[3] == 0 {
-        return file[4] == 1;
-    }
-    false
+    unsigned_at(file, 3) == VERSION
 }
 
 fn kind_wanted(kind: u32, file: &[u8]) -> bool
-    requires { ⌜ 16 ≤ length (now file) ⌝ }
-    ensures { λ r. ⌜ r ≡ (not (outside 1 3 kind) && eqb (getD (now (file .entry)) 5 0) kind) ⌝ }
+    requires { ⌜ headLength ≤ length (now file) ⌝ }
+    ensures { λ r. ⌜ r ≡ (knownKind kind && eqb (getD (now (file .entry)) 5 0) kind) ⌝ }
 {
-    if parameters::out_of_range(kind, PUBLIC, SEALED) {
-        return false;
+    if known_kind(kind) {
+        return file[5] as u32 == kind;
     }
-    file[5] as u32 == kind
+    false
 }
 
 pub(crate) fn head_refusal(kind: u32, file: &[u8]) -> Answer
     ensures { λ r. ⌜ answered r ≡ outcome (headChecks kind (now (file .entry))) tt ⌝ }
 {
-    if file.len() < 16 {
+    if file.len() < HEAD_BYTES {
         return Answer::Refused(Refusal::HeadTooShort);
     }
     if !marked_eiz(file) {
@@ -71,7 +70,7 @@ pub(crate) fn head_refusal(kind: u32, file: &[u8]) -> Answer
 }
 
 pub(crate) fn head_parameters(file: &[u8]) -> Made
-    requires { ⌜ 16 ≤ length (now file) ⌝ }
+    requires { ⌜ headLength ≤ length (now file) ⌝ }
     ensures { λ r. ⌜ made r ≡ parameters (headOf (now (file .entry))) ⌝ }
 {
     let n = unsigned_at(file, 6);
@@ -82,16 +81,16 @@ pub(crate) fn head_parameters(file: &[u8]) -> Made
     Parameters::new(n, c, d, s, t)
 }
 
-// Writes the first 16 bytes; c and d are the bits of the parts of q.
+// Writes the bytes of a head; c and d are the bits of the parts of q.
 fn write_head_bytes(kind: u32, n: u32, c: u32, d: u32, s: u32, t: u32, file: &mut [u8])
-    requires { ⌜ (kind < 256) × (n < 65536) × (c < 65536) × (d < 65536) × (s < 65536) × (t < 65536) × (16 ≤ length (now file)) ⌝ }
-    ensures { λ _. ⌜ now (file .exit) ≡ (69 ∷ 73 ∷ 90 ∷ 0 ∷ 1 ∷ kind ∷ bytes16 n ++ (bytes16 c ++ (bytes16 d ++ (bytes16 s ++ bytes16 t)))) ++ drop 16 (now (file .entry)) ⌝ }
+    requires { ⌜ (kind < 256) × (n < 65536) × (c < 65536) × (d < 65536) × (s < 65536) × (t < 65536) × (headLength ≤ length (now file)) ⌝ }
+    ensures { λ _. ⌜ now (file .exit) ≡ (69 ∷ 73 ∷ 90 ∷ bytes16 version ++ (kind ∷ bytes16 n ++ (bytes16 c ++ (bytes16 d ++ (bytes16 s ++ bytes16 t))))) ++ drop headLength (now (file .entry)) ⌝ }
 {
     file[0] = b'E';
     file[1] = b'I';
     file[2] = b'Z';
-    file[3] = 0;
-    file[4] = 1;
+    file[3] = (VERSION / 256) as u8;
+    file[4] = (VERSION % 256) as u8;
     file[5] = kind as u8;
     file[6] = (n / 256) as u8;
     file[7] = (n % 256) as u8;
@@ -106,8 +105,8 @@ fn write_head_bytes(kind: u32, n: u32, c: u32, d: u32, s: u32, t: u32, file: &mu
 }
 
 pub(crate) fn write_head(kind: u32, p: Parameters, file: &mut [u8])
-    requires { ⌜ (outside 1 3 kind ≡ false) × (outcome (parameterChecks (setOf p)) (tt {0}) ≡ done (tt {0})) × (16 ≤ length (now file)) ⌝ }
-    ensures { λ _. ⌜ now (file .exit) ≡ headBytes kind (setOf p) ++ drop 16 (now (file .entry)) ⌝ }
+    requires { ⌜ T (knownKind kind) × Passes (parameterChecks (setOf p)) × (headLength ≤ length (now file)) ⌝ }
+    ensures { λ _. ⌜ now (file .exit) ≡ headBytes kind (setOf p) ++ drop headLength (now (file .entry)) ⌝ }
 {
     let n = p.n;
     let c = p.c;

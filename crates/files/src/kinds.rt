@@ -1,12 +1,16 @@
-// What each kind of file holds.
+// The kinds of file, and what each holds: a new kind is added here, and to `arraysOf` of the definitions.
 ghost use mathlib.Core.Path.{_≡_};
 ghost use lib.ListN.{length, getD};
-ghost use Rattle.etru.specs.declared.ArraySet.the-variants.{ReducedModuloQ};
-ghost use Rattle.files.specs.Files.{arraysOf};
-use crate::PRIVATE;
-use crate::PUBLIC;
-use crate::SEALED;
-use etru::ArraySet;
+ghost use Rattle.arrays.specs.declared.ArraySet.the-variants.{ReducedModuloQ};
+ghost use Rattle.files.specs.Files.{arraysOf, knownKind};
+use arrays::ArraySet;
+
+// "Kind 1, public: h. Kind 2, private: f, F2, Fq, g. Kind 3, sealed: e."
+pub const PUBLIC: u32 = 1;
+
+pub const PRIVATE: u32 = 2;
+
+pub const SEALED: u32 = 3;
 
 pub(crate) fn array_count(kind: u32) -> usize
     ensures { λ r. ⌜ r ≡ length (arraysOf kind) ⌝ }
@@ -39,4 +43,11 @@ pub(crate) fn array_set(kind: u32, k: usize) -> ArraySet
         }
     }
     ArraySet::ReducedModuloQ
+}
+
+pub(crate) fn known_kind(kind: u32) -> bool
+    ensures { λ r. ⌜ r ≡ knownKind kind ⌝ }
+{
+    let count = array_count(kind);
+    0 < count
 }

@@ -3,15 +3,16 @@ use mathlib.Core.Path.{_≡_, sym, _∙_, ap}
 use mathlib.Core.List.{List}
 use Prim.Native.Nat.{ℕ, _-_, min, _≤_}
 use native.Mathlib.Omega.{arith, min-cases}
-use lib.ListN.{length, take, drop, length-drop, drop-of-length-le}
-use lib.Seq.{take-all, drop-length}
+use lib.ListN.{length, take, drop, drop-of-length-le}
+use lib.Seq.{drop-length}
 use Rattle.refusals.specs.Outcomes.{done, refused, outcome}
 use Rattle.refusals.specs.Numbers.{numberOf}
 use Rattle.refusals.specs.declared.Refusal.{Refusal}
 use Rattle.refusals.proofs.Checks.{refused-first}
 use Rattle.parameters.specs.Sets.{ParameterSet}
-use Rattle.files.specs.Files.{fileBytes, headOf}
+use Rattle.files.specs.Files.{headLength, fileBytes, headOf}
 use Rattle.files.specs.Calls.{readingHead}
+use Rattle.files.proofs.Lists.{rest-taken}
 use Rattle.files.proofs.Passed.{file-bytes}
 use Rattle.opening.specs.Program.{firstLength, fileChecks, openingPair, openingFiles}
 use Rattle.opening.proofs.FirstBytes.{head-of-part}
@@ -24,11 +25,7 @@ end-dropped : (n : ℕ) (input : List ℕ) → drop (min n (length input)) input
 end-dropped n input =
     min-cases n (length input) _ (λ l e. ap (λ (k : ℕ). drop k input) e) (λ l e. ap (λ (k : ℕ). drop k input) e ∙ drop-length input ∙ sym (drop-of-length-le input l))
 
--- the rest, as it is lent
-rest-taken : (n : ℕ) (input : List ℕ) → take (length input - n) (drop n input) ≡ drop n input
-rest-taken n input = take-all (length input - n) (drop n input) (omega (arith, length-drop n input))
-
-head-inside : (kind N : ℕ) → 16 ≤ fileBytes kind N
+head-inside : (kind N : ℕ) → headLength ≤ fileBytes kind N
 head-inside kind N = omega (arith, file-bytes kind N)
 
 -- ---- a refused head, and one that is read

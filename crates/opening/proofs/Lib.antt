@@ -1,6 +1,8 @@
+pub mod Answers
 pub mod FirstBytes
 pub mod InputParts
 pub mod JoinedArrays
+pub mod KeptArrays
 pub mod LineRoom
 pub mod LongInput
 pub mod Parts

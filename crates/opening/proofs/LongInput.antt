@@ -11,14 +11,14 @@ use lib.Seq.{take-take, length-take-le, take-append-le, drop-append-le}
 use Rattle.refusals.specs.Outcomes.{Check, Outcome, done, refused, outcome}
 use Rattle.refusals.proofs.Checks.{passed-all, refused-first, fails-refused}
 use Rattle.parameters.specs.Sets.{parameterChecks}
-use Rattle.etru.proofs.AcceptedParameters.{accepted-parameters}
-use Rattle.files.specs.Files.{arraysOf, fileNumbers, fileBytes, headOf}
+use Rattle.parameters.proofs.AcceptedParameters.{accepted-parameters}
+use Rattle.files.specs.Files.{headLength, arraysOf, fileNumbers, fileBytes, headOf, numbersOf}
 use Rattle.files.specs.Calls.{headChecks, contentChecks, readingChecks}
 use Rattle.files.proofs.Passed.{file-bytes}
 use Rattle.files.proofs.Bounds.{numbers-few}
 use Rattle.opening.proofs.FirstBytes.{head-of-start, checks-of-start}
 use Rattle.opening.specs.Lines.{lineOf}
-use Rattle.opening.specs.Program.{firstLength, fileChecks, numbersOf, openingPair, openingFiles, openingLine}
+use Rattle.opening.specs.Program.{firstLength, fileChecks, openingPair, openingFiles, openingLine}
 use Rattle.opening.specs.Promises.{Long-input-line}
 
 -- ---- outcomes that begin with the same checks are the same, if they are so where those are passed
@@ -39,10 +39,10 @@ parts : (kind : ℕ) (file : List ℕ) (ds : List Check) → fileChecks kind fil
 unfolding fileChecks readingChecks contents
 parts kind file ds = simp append-assoc
 
-same-head : (file file′ : List ℕ) → take 16 file ≡ take 16 file′ → headOf file ≡ headOf file′
+same-head : (file file′ : List ℕ) → take headLength file ≡ take headLength file′ → headOf file ≡ headOf file′
 same-head file file′ e = sym (head-of-start file) ∙ ap headOf e ∙ head-of-start file′
 
-same-starts : {A : Type 0} (kind : ℕ) (file file′ : List ℕ) (ds ds′ : List Check) (a a′ : A) → take 16 file ≡ take 16 file′ → (headOf file .N ≤ 1024 → outcome (contents kind file ++ ds) a ≡ outcome (contents kind file′ ++ ds′) a′) → outcome (fileChecks kind file ++ ds) a ≡ outcome (fileChecks kind file′ ++ ds′) a′
+same-starts : {A : Type 0} (kind : ℕ) (file file′ : List ℕ) (ds ds′ : List Check) (a a′ : A) → take headLength file ≡ take headLength file′ → (headOf file .N ≤ 1024 → outcome (contents kind file ++ ds) a ≡ outcome (contents kind file′ ++ ds′) a′) → outcome (fileChecks kind file ++ ds) a ≡ outcome (fileChecks kind file′ ++ ds′) a′
 same-starts kind file file′ ds ds′ a a′ e h =
     let k : headChecks kind file ≡ headChecks kind file′ = sym (checks-of-start file kind) ∙ ap (headChecks kind) e ∙ checks-of-start file′ kind in
     rw (parts kind file ds, parts kind file′ ds′, ← k, ← same-head file file′ e)
@@ -51,8 +51,8 @@ same-starts kind file file′ ds ds′ a a′ e h =
 
 -- ---- a file that is longer than its head says, and what follows it
 
-start : (front rest : List ℕ) → 16 ≤ length front → take 16 front ≡ take 16 (front ++ rest)
-start front rest h = sym (take-append-le 16 front rest h)
+start : (front rest : List ℕ) → headLength ≤ length front → take headLength front ≡ take headLength (front ++ rest)
+start front rest h = sym (take-append-le headLength front rest h)
 
 too-long : {A : Type 0} (file : List ℕ) (ds : List Check) (a : A) → 4112 < length file → headOf file .N ≤ 1024 → outcome (contents 3 file ++ ds) a ≡ refused 7
 unfolding contents contentChecks fileBytes arraysOf
@@ -70,10 +70,10 @@ same-second file rest ds ds′ a a′ l =
 
 -- ---- the two files of an input, parted after n bytes
 
-same-pair : (front rest : List ℕ) (n : ℕ) → 20513 ≤ length front → 16 ≤ n → (headOf (take n front) .N ≤ 1024 → n ≤ 16400) → openingPair (take n front) (drop n front) ≡ openingPair (take n (front ++ rest)) (drop n (front ++ rest))
+same-pair : (front rest : List ℕ) (n : ℕ) → 20513 ≤ length front → headLength ≤ n → (headOf (take n front) .N ≤ 1024 → n ≤ 16400) → openingPair (take n front) (drop n front) ≡ openingPair (take n (front ++ rest)) (drop n (front ++ rest))
 unfolding openingPair
 same-pair front rest n l h m =
-    same-starts 2 (take n front) (take n (front ++ rest)) _ _ _ _ (take-take 16 n front h ∙ start front rest (omega arith) ∙ sym (take-take 16 n (front ++ rest) h)) λ s.
+    same-starts 2 (take n front) (take n (front ++ rest)) _ _ _ _ (take-take headLength n front h ∙ start front rest (omega arith) ∙ sym (take-take headLength n (front ++ rest) h)) λ s.
     rw (take-append-le n front rest (omega (arith, m s)), drop-append-le n front rest (omega (arith, m s)))
     (same-first (contents 2 (take n front)) _ _ _ _ λ _. same-second (drop n front) rest _ _ _ _ (omega (arith, m s, length-drop n front)))
 
@@ -81,9 +81,9 @@ same-files : (front rest : List ℕ) → 20513 ≤ length front → openingFiles
 unfolding openingFiles firstLength
 same-files front rest l =
     let n = fileBytes 2 (headOf front .N) in
-    let e : 16 ≤ n = omega (arith, file-bytes 2 (headOf front .N)) in
+    let e : headLength ≤ n = omega (arith, file-bytes 2 (headOf front .N)) in
     rw (← same-head front (front ++ rest) (start front rest (omega arith)))
-    (same-pair front rest n l e λ h. omega (arith, file-bytes 2 (headOf front .N), numbers-few 2 (headOf front .N) (rw (same-head (take n front) front (take-take 16 n front e)) at h)))
+    (same-pair front rest n l e λ h. omega (arith, file-bytes 2 (headOf front .N), numbers-few 2 (headOf front .N) (rw (same-head (take n front) front (take-take headLength n front e)) at h)))
 
 pub long-input-line : Long-input-line
 unfolding openingLine

@@ -5,7 +5,7 @@ use Prim.Native.Nat.{ℕ, _≤_}
 use lib.Dec.{T}
 use lib.IntN.{ℤ}
 use lib.ListN.{length}
-use Rattle.refusals.specs.Outcomes.{done, refused, outcome, number, written}
+use Rattle.refusals.specs.Outcomes.{done, refused, outcome, number, written, Passes}
 use Rattle.refusals.specs.Numbers.{numberOf, answered}
 use Rattle.refusals.specs.declared.Answer.{Answer}
 use Rattle.refusals.specs.declared.Answer.the-variants.{Done, Refused}
@@ -13,13 +13,13 @@ use Rattle.refusals.specs.declared.Refusal.{Refusal}
 use Rattle.refusals.proofs.Checks.{positive, done-as-written, refused-by-number, refused-plain, refused-first, done-all, done-parts}
 use Rattle.refusals.proofs.Numbers.{number-positive}
 use Rattle.parameters.specs.Sets.{ParameterSet, parameterChecks}
-use Rattle.etru.specs.declared.ArraySet.{ArraySet}
-use Rattle.etru.specs.declared.ArraySet.the-variants.{F, G, ReducedModulo2, ReducedModuloQ}
-use Rattle.etru.proofs.AcceptedParameters.{accepted-parameters}
-use Rattle.files.specs.Files.{arraysOf, fileNumbers, fileBytes, headOf}
+use Rattle.arrays.specs.declared.ArraySet.{ArraySet}
+use Rattle.arrays.specs.declared.ArraySet.the-variants.{F, G, Phi, ReducedModulo2, ReducedModuloQ}
+use Rattle.parameters.proofs.AcceptedParameters.{accepted-parameters}
+use Rattle.files.specs.Files.{arraysOf, fileNumbers, fileBytes, headOf, numbersOf}
 use Rattle.files.specs.Calls.{headChecks, readingHead, setChecks, contentChecks, readingChecks, reading}
 use Rattle.files.proofs.Passed.{contents-passed}
-use Rattle.opening.specs.Program.{fileChecks, numbersOf}
+use Rattle.opening.specs.Program.{fileChecks}
 
 -- ---- no check of a file has the number 0
 
@@ -28,6 +28,7 @@ unfolding setChecks
 positive-sets p [] l = tt
 positive-sets p (F ∷ rest) l = positive-sets p rest _
 positive-sets p (G ∷ rest) l = positive-sets p rest _
+positive-sets p (Phi ∷ rest) l = positive-sets p rest _
 positive-sets p (ReducedModulo2 ∷ rest) l = positive-sets p rest _
 positive-sets p (ReducedModuloQ ∷ rest) l = positive-sets p rest _
 
@@ -48,15 +49,15 @@ pub record Read (kind : ℕ) (p : ParameterSet) (file : List ℕ) (numbers : Lis
   pub head : headOf file ≡ p
   pub numbers-are : numbersOf file ≡ numbers
   pub long : length file ≡ fileBytes kind (p .N)
-  pub checks : outcome (fileChecks kind file) (tt {0}) ≡ done (tt {0})
-  pub sets : outcome (setChecks p (arraysOf kind) numbers) (tt {0}) ≡ done (tt {0})
+  pub checks : Passes (fileChecks kind file)
+  pub sets : Passes (setChecks p (arraysOf kind) numbers)
 
 module _ (kind : ℕ) (file : List ℕ) (p : ParameterSet) (head : readingHead kind file ≡ done p) where
   pub head-is : headOf file ≡ p
   unfolding readingHead
   head-is = done-parts _ _ _ head .1
 
-  pub accepted : outcome (parameterChecks p) (tt {0}) ≡ done (tt {0})
+  pub accepted : Passes (parameterChecks p)
   unfolding readingHead
   accepted = rw head-is at (done-parts _ _ _ (done-all (headChecks kind file) _ _ _ head .1) .0)
 

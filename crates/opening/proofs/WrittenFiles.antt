@@ -1,8 +1,7 @@
 -- The private file of an accepted key and a sealed file, as they are written, open to the message.
 use mathlib.Core.Path.{_≡_, refl, sym, _∙_, ap, ap₂, subst}
-use mathlib.Core.Bool.{false, _&&_}
+use mathlib.Core.Bool.{_&&_}
 use mathlib.Core.List.{List, [], _∷_, _++_}
-use mathlib.Core.Logic.{_≢_}
 use Prim.Native.Nat.{ℕ, _*_, _≤_}
 use native.Mathlib.Omega.{arith}
 use lib.Dec.{T, eqb, eqb-refl}
@@ -11,22 +10,21 @@ use lib.ListN.{length, length-append, List·getD-append}
 use lib.Seq.{take-at, drop-at}
 use mir.Facts.{yes-and}
 use Rattle.integers.proofs.Tests.{equal-2}
-use Rattle.refusals.specs.Outcomes.{done, outcome}
-use Rattle.refusals.proofs.Checks.{passed, holds-passed, none-left, done-passed, done-parts, done-all, passed-all, done-with}
-use Rattle.eisenstein.specs.Values.{same, 𝟘}
+use Rattle.refusals.specs.Outcomes.{done, outcome, Passes}
+use Rattle.refusals.proofs.Checks.{holds-passed, none-left, done-passed, done-parts, done-all, passed-all, done-with}
+use Rattle.eisenstein.specs.Values.{same}
 use Rattle.eisenstein.proofs.Equality.{same-true}
-use Rattle.parameters.specs.Sets.{ParameterSet, outside, parameterChecks}
+use Rattle.parameters.specs.Sets.{ParameterSet, parameterChecks}
 use Rattle.polynomials.specs.Polynomials.{coefficient, convolution, one, congruentQ, congruent2}
 use Rattle.packing.specs.Messages.{messageBytes}
-use Rattle.etru.specs.declared.ArraySet.the-variants.{F, G, ReducedModulo2, ReducedModuloQ}
+use Rattle.arrays.specs.declared.ArraySet.the-variants.{F, G, ReducedModulo2, ReducedModuloQ}
 use Rattle.etru.specs.Calls.{keyChecks, keyCheck, openingChecks, opening}
 use Rattle.etru.specs.Demand3.{AcceptedKey, Opens}
-use Rattle.etru.proofs.AcceptedParameters.{modulus-nonzero}
 use Rattle.etru.proofs.Passed.{Checking, key-passed, opening-passed}
 use Rattle.etru.proofs.Demand3.{Key, accepted-key, demand-3}
-use Rattle.files.specs.Files.{arraysOf, fileNumbers, fileBytes, number16, unsignedAt, headOf, arrayAt, fileOf}
+use Rattle.files.specs.Files.{arraysOf, knownKind, headLength, fileNumbers, fileBytes, number16, unsignedAt, headOf, arrayAt, fileOf}
 use Rattle.files.specs.Calls.{setChecks, contentChecks, writingChecks, writing}
-use Rattle.files.proofs.SetChecks.{own}
+use Rattle.arrays.proofs.ArrayChecks.{own}
 use Rattle.files.proofs.ArraysOfKinds.{private-arrays, sealed-arrays}
 use Rattle.files.proofs.Passed.{file-bytes}
 use Rattle.files.proofs.RoundTrips.{reading-undoes-writing}
@@ -38,10 +36,10 @@ use Rattle.opening.proofs.ReadFiles.{Read, read-done}
 
 -- ---- writing, where all is in order
 
-writes : (kind : ℕ) (p : ParameterSet) (l : List ℤ) → outside 1 3 kind ≡ false → outcome (parameterChecks p) (tt {0}) ≡ done (tt {0}) → length l ≡ fileNumbers kind (p .N) → outcome (setChecks p (arraysOf kind) l) (tt {0}) ≡ done (tt {0}) → writing kind p l (fileBytes kind (p .N)) ≡ done (fileOf kind p l)
+writes : (kind : ℕ) (p : ParameterSet) (l : List ℤ) → T (knownKind kind) → Passes (parameterChecks p) → length l ≡ fileNumbers kind (p .N) → Passes (setChecks p (arraysOf kind) l) → writing kind p l (fileBytes kind (p .N)) ≡ done (fileOf kind p l)
 unfolding writing writingChecks contentChecks
 writes kind p l k c n s =
-    passed 19 _ _ k
+    holds-passed 19 (knownKind kind) _ _ k
     ∙ passed-all (parameterChecks p) _ _ c
     ∙ holds-passed 7 (eqb (fileBytes kind (p .N)) (fileBytes kind (p .N)) && eqb (length l) (fileNumbers kind (p .N))) _ _ (equal-2 {a = fileBytes kind (p .N)} refl n)
     ∙ done-with (setChecks p (arraysOf kind) l) _ s
@@ -53,7 +51,7 @@ written-read kind p l room file e = let r = reading-undoes-writing kind p l room
 
 -- ---- two files, parted where the first one's head says
 
-first-length : (first second : List ℕ) → 16 ≤ length first → firstLength (first ++ second) ≡ fileBytes 2 (headOf first .N)
+first-length : (first second : List ℕ) → headLength ≤ length first → firstLength (first ++ second) ≡ fileBytes 2 (headOf first .N)
 unfolding firstLength headOf unsignedAt
 first-length first second h =
     ap₂ (λ (high low : ℕ). fileBytes 2 (number16 high low)) (List·getD-append first second 0 6 (omega arith)) (List·getD-append first second 0 7 (omega arith))
@@ -80,32 +78,35 @@ module _ {p : ParameterSet} {f F2 Fq g h φ : List ℤ} {message : List ℕ} (ac
   key : Key p f F2 Fq g h
   key = accepted-key accepted
 
-  q≢0 : p .q ≢ 𝟘
-  q≢0 = modulus-nonzero p (key .parameters)
-
-  -- what the key check and opening have passed, after the parameters
-  key-checks : outcome (keyChecks p f F2 Fq g (2 * p .N)) (tt {0}) ≡ done (tt {0})
+  -- what the key check and opening have passed, and that after the parameters
+  all-key-checks : Passes (parameterChecks p ++ keyChecks p f F2 Fq g (2 * p .N))
   unfolding keyCheck
-  key-checks = done-parts _ _ _ (done-all (parameterChecks p) _ _ _ (accepted .accepted) .1) .0
+  all-key-checks = done-parts _ _ _ (accepted .accepted) .0
 
-  opening-checks : outcome (openingChecks (p .N) (p .q) (p .t) f F2 (o .e) (messageBytes (p .N))) (tt {0}) ≡ done (tt {0})
+  key-checks : Passes (keyChecks p f F2 Fq g (2 * p .N))
+  key-checks = done-all (parameterChecks p) _ _ _ all-key-checks .1
+
+  all-opening-checks : Passes (parameterChecks p ++ openingChecks p f F2 (o .e) (messageBytes (p .N)))
   unfolding opening
-  opening-checks = done-parts _ _ _ (done-all (parameterChecks p) _ _ _ (o .opens) .1) .0
+  all-opening-checks = done-parts _ _ _ (o .opens) .0
+
+  opening-checks : Passes (openingChecks p f F2 (o .e) (messageBytes (p .N)))
+  opening-checks = done-all (parameterChecks p) _ _ _ all-opening-checks .1
 
   key-arrays : Checking p Fq g (2 * p .N)
-  key-arrays = key-passed p (key .parameters .q-small) q≢0 f F2 Fq g (2 * p .N) key-checks
+  key-arrays = key-passed p f F2 Fq g (2 * p .N) all-key-checks
 
   e-full : length (o .e) ≡ 2 * p .N
-  e-full = opening-passed (p .N) (p .q) (key .parameters .q-small) q≢0 (p .t) f F2 (o .e) (messageBytes (p .N)) opening-checks .e-ready .long
+  e-full = opening-passed p f F2 (o .e) (messageBytes (p .N)) all-opening-checks .e-ready .long
 
   -- each array is in its set: the four checks after the lengths, and the last one of opening
-  private-sets : outcome (setChecks p (arraysOf 2) numbers) (tt {0}) ≡ done (tt {0})
+  private-sets : Passes (setChecks p (arraysOf 2) numbers)
   unfolding keyChecks
   private-sets =
       rw (private-arrays 2 refl, first-check p f (key .f-full), first-check p F2 (key .F2-full), first-check p Fq (key-arrays .Fq-ready .long), last-check p g (key-arrays .g-units .long))
       (done-all (own p F f ∷ own p ReducedModulo2 F2 ∷ own p ReducedModuloQ Fq ∷ own p G g ∷ []) _ _ _ (done-passed 7 _ _ _ _ key-checks .1) .0)
 
-  sealed-sets : outcome (setChecks p (arraysOf 3) (o .e)) (tt {0}) ≡ done (tt {0})
+  sealed-sets : Passes (setChecks p (arraysOf 3) (o .e))
   unfolding openingChecks
   sealed-sets =
       rw (sealed-arrays 3 refl, last-check p (o .e) e-full)
@@ -119,15 +120,15 @@ module _ {p : ParameterSet} {f F2 Fq g h φ : List ℤ} {message : List ℕ} (ac
   sealed = fileOf 3 p (o .e)
 
   writes-private : writing 2 p numbers (fileBytes 2 (p .N)) ≡ done private
-  unfolding private outside fileNumbers arraysOf
+  unfolding private fileNumbers arraysOf
   writes-private =
-      writes 2 p numbers refl (key .parameters .checks)
+      writes 2 p numbers tt (key .parameters .checks)
       (simp length-append (omega (arith, key .f-full, key .F2-full, key-arrays .Fq-ready .long, key-arrays .g-units .long)))
       private-sets
 
   writes-sealed : writing 3 p (o .e) (fileBytes 3 (p .N)) ≡ done sealed
-  unfolding sealed outside fileNumbers arraysOf
-  writes-sealed = writes 3 p (o .e) refl (key .parameters .checks) (omega (arith, e-full)) sealed-sets
+  unfolding sealed fileNumbers arraysOf
+  writes-sealed = writes 3 p (o .e) tt (key .parameters .checks) (omega (arith, e-full)) sealed-sets
 
   -- the pair passes its checks, and opens
   f-is : arrayAt p 0 numbers ≡ f

@@ -5,19 +5,16 @@ use Prim.Native.Nat.{ℕ}
 use lib.Dec.{eqb}
 use lib.IntN.{ℤ}
 use lib.ListN.{length, take, drop}
-use Rattle.refusals.specs.Outcomes.{Check, Outcome, outcome, done, refused, _if_}
-use Rattle.refusals.specs.Numbers.{numberOf}
+use Rattle.refusals.specs.Outcomes.{Check, Outcome, outcome, _if_}
 use Rattle.eisenstein.specs.Values.{same}
 use Rattle.parameters.specs.Sets.{ParameterSet}
 use Rattle.polynomials.specs.Polynomials.{coefficient}
 use Rattle.packing.specs.Messages.{unpacked}
 use Rattle.etru.specs.Scheme.{opened}
 use Rattle.etru.specs.Calls as etru
-use Rattle.files.specs.Files.{fileNumbers, fileBytes, headOf, numbersFrom, arrayAt}
+use Rattle.files.specs.Files.{fileNumbers, fileBytes, headOf, numbersOf, arrayAt}
 use Rattle.files.specs.Calls.{readingChecks}
 use Rattle.opening.specs.Lines.{lineOf}
-use Rattle.opening.specs.declared.Opened.{Opened}
-use Rattle.opening.specs.declared.Opened.the-variants.{Message, Refused}
 
 -- "reads the first file as far as its own head says, then all the rest as the second"
 unfoldable pub firstLength : List ℕ → ℕ
@@ -27,17 +24,13 @@ firstLength input = fileBytes 2 (headOf input .N)
 unfoldable pub fileChecks : ℕ → List ℕ → List Check
 fileChecks kind file = readingChecks kind file (fileNumbers kind (headOf file .N))
 
--- The numbers of a file.
-abbrev pub numbersOf : List ℕ → List ℤ
-numbersOf file = numbersFrom (drop 16 file)
-
 -- "the two files' parameters differ"
 unfoldable pub sameSet : ParameterSet → ParameterSet → Bool
 sameSet p p′ = eqb (p .N) (p′ .N) && (same (p .q) (p′ .q) && (eqb (p .s) (p′ .s) && eqb (p .t) (p′ .t)))
 
 -- "then 20, 13, 14": of a private file's parameters and numbers f, F2, Fq, g, and a sealed file's parameters
 unfoldable pub inverseChecks : ParameterSet → List ℤ → List Check
-inverseChecks p numbers = etru.inverseChecks (p .N) (p .q) (arrayAt p 0 numbers) (arrayAt p 1 numbers) (arrayAt p 2 numbers)
+inverseChecks p numbers = etru.inverseChecks p (arrayAt p 0 numbers) (arrayAt p 1 numbers) (arrayAt p 2 numbers)
 
 unfoldable pub pairChecks : ParameterSet → List ℤ → ParameterSet → List Check
 pairChecks p numbers p′ = 20 if not (sameSet p p′) ∷ inverseChecks p numbers
@@ -68,8 +61,3 @@ lineWriting input old = outcome (lineChecks (length old)) (openingLine input ++ 
 
 unfoldable pub lineLength : List ℕ → ℕ → Outcome ℕ
 lineLength input room = outcome (lineChecks room) (length (openingLine input))
-
--- The answer of the parts of the program that leave a message's bytes at the front of `message`.
-abbrev pub openedIs : Opened → List ℕ → Outcome (List ℕ)
-openedIs (Message n) message = done (take n message)
-openedIs (Refused r) message = refused (numberOf r)

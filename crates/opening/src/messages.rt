@@ -1,16 +1,13 @@
-// The message of a private key and a sealed array, once the two files are read.
+// The message of a pair of files, once both are read.
 ghost use mathlib.Core.Path.{_≡_};
-ghost use Prim.Native.Nat.{_*_};
-ghost use lib.Dec.{T};
 ghost use lib.ListN.{length};
-ghost use Rattle.refusals.specs.Outcomes.{done, outcome};
+ghost use Rattle.refusals.specs.Outcomes.{Passes};
+ghost use Rattle.refusals.specs.Numbers.{answered};
 ghost use Rattle.parameters.specs.Sets.{setOf, parameterChecks};
-ghost use Rattle.polynomials.specs.Polynomials.{coefficient, reducedQ};
 ghost use Rattle.packing.specs.Messages.{messageBytes};
 ghost use Rattle.etru.specs.Calls.{opening};
-ghost use Rattle.files.specs.Files.{arraysOf};
-ghost use Rattle.files.specs.Calls.{setChecks};
-ghost use Rattle.opening.specs.Program.{sameSet, inverseChecks, pairChecks, messageOf, openedIs};
+ghost use Rattle.opening.specs.Program.{sameSet};
+ghost use Rattle.opening.specs.Steps.{Room, openingArrays, openingWith, openedIs};
 use crate::Opened;
 use parameters::Parameters;
 use refusals::Answer;
@@ -18,51 +15,30 @@ use refusals::Refusal;
 
 // The message goes to the front of a lent one.
 fn open_message(p: Parameters, f: &[i32], f2: &[i32], e: &[i32], message: &mut [u8]) -> Opened
-    requires { ⌜ (outcome (parameterChecks (setOf p)) (tt {0}) ≡ done (tt {0})) × (length (now message) ≡ 256) ⌝ }
+    requires { ⌜ Passes (parameterChecks (setOf p)) × (length (now message) ≡ 256) ⌝ }
     ensures { λ r. ⌜ openedIs r (now (message .exit)) ≡ opening (setOf p) (now (f .entry)) (now (f2 .entry)) (now (e .entry)) (messageBytes (p .n)) ⌝ }
 {
     let n = p.n;
-    let k = etru::message_bytes(n);
+    let k = packing::message_bytes(n);
     match etru::open(p, f, f2, e, &mut message[..k]) {
         Answer::Done => Opened::Message(k),
         Answer::Refused(refusal) => Opened::Refused(refusal),
     }
 }
 
-// The public key that the key check forms goes to a lent array.
-fn open_checked_in(
-    p: Parameters,
-    numbers: &[i32],
-    e: &[i32],
-    h: &mut [i32],
-    message: &mut [u8],
-) -> Opened
-    requires { ⌜ (outcome (parameterChecks (setOf p)) (tt {0}) ≡ done (tt {0})) × (length (now numbers) ≡ 2 * p .n * 4) × (outcome (setChecks (setOf p) (arraysOf 2) (now numbers)) (tt {0}) ≡ done (tt {0})) × (length (now e) ≡ 2 * p .n) × T (reducedQ (p .n) (setOf p .q) (coefficient (now e))) × (length (now h) ≡ 2 * p .n) × (length (now message) ≡ 256) ⌝ }
-    ensures { λ r. ⌜ openedIs r (now (message .exit)) ≡ outcome (inverseChecks (setOf p) (now (numbers .entry))) (messageOf (setOf p) (now (numbers .entry)) (now (e .entry))) ⌝ }
+// The arrays are one after another.
+fn open_arrays(p: Parameters, numbers: &[i32], message: &mut [u8]) -> Opened
+    requires { ⌜ Passes (parameterChecks (setOf p)) × Room (now numbers) (now message) ⌝ }
+    ensures { λ r. ⌜ openedIs r (now (message .exit)) ≡ openingArrays (setOf p) (now (numbers .entry)) ⌝ }
 {
     let n = p.n;
     let f_end = 2 * (n as usize);
     let f2_end = 2 * f_end;
-    let fq_end = 3 * f_end;
-    let g_end = 4 * f_end;
+    let e_end = 3 * f_end;
     let f = &numbers[..f_end];
     let f2 = &numbers[f_end..f2_end];
-    let fq = &numbers[f2_end..fq_end];
-    let g = &numbers[fq_end..g_end];
-    match etru::check_key(p, f, f2, fq, g, h) {
-        Answer::Done => open_message(p, f, f2, e, message),
-        Answer::Refused(refusal) => Opened::Refused(refusal),
-    }
-}
-
-fn open_checked(p: Parameters, numbers: &[i32], e: &[i32], message: &mut [u8]) -> Opened
-    requires { ⌜ (outcome (parameterChecks (setOf p)) (tt {0}) ≡ done (tt {0})) × (length (now numbers) ≡ 2 * p .n * 4) × (outcome (setChecks (setOf p) (arraysOf 2) (now numbers)) (tt {0}) ≡ done (tt {0})) × (length (now e) ≡ 2 * p .n) × T (reducedQ (p .n) (setOf p .q) (coefficient (now e))) × (length (now message) ≡ 256) ⌝ }
-    ensures { λ r. ⌜ openedIs r (now (message .exit)) ≡ outcome (inverseChecks (setOf p) (now (numbers .entry))) (messageOf (setOf p) (now (numbers .entry)) (now (e .entry))) ⌝ }
-{
-    let n = p.n;
-    let k = 2 * (n as usize);
-    let mut h = etru::zeros();
-    open_checked_in(p, numbers, e, &mut h[..k], message)
+    let e = &numbers[f2_end..e_end];
+    open_message(p, f, f2, e, message)
 }
 
 fn same_parameters(p: Parameters, other: Parameters) -> bool
@@ -93,19 +69,22 @@ fn same_parameters(p: Parameters, other: Parameters) -> bool
     t == other_t
 }
 
-// The parameters of the private file and its numbers, those of the sealed file and its numbers.
+// What the key check answered, the parameters of the sealed file, and the arrays f, F2 and e.
 pub(crate) fn open_pair(
     p: Parameters,
-    numbers: &[i32],
+    key: Answer,
     sealed: Parameters,
-    e: &[i32],
+    numbers: &[i32],
     message: &mut [u8],
 ) -> Opened
-    requires { ⌜ (outcome (parameterChecks (setOf p)) (tt {0}) ≡ done (tt {0})) × (length (now numbers) ≡ 2 * p .n * 4) × (outcome (setChecks (setOf p) (arraysOf 2) (now numbers)) (tt {0}) ≡ done (tt {0})) × (length (now e) ≡ 2 * sealed .n) × T (reducedQ (sealed .n) (setOf sealed .q) (coefficient (now e))) × (length (now message) ≡ 256) ⌝ }
-    ensures { λ r. ⌜ openedIs r (now (message .exit)) ≡ outcome (pairChecks (setOf p) (now (numbers .entry)) (setOf sealed)) (messageOf (setOf p) (now (numbers .entry)) (now (e .entry))) ⌝ }
+    requires { ⌜ Passes (parameterChecks (setOf p)) × Room (now numbers) (now message) ⌝ }
+    ensures { λ r. ⌜ openedIs r (now (message .exit)) ≡ openingWith (setOf p) (setOf sealed) (answered key) (now (numbers .entry)) ⌝ }
 {
     if !same_parameters(p, sealed) {
         return Opened::Refused(Refusal::ParametersDiffer);
     }
-    open_checked(p, numbers, e, message)
+    match key {
+        Answer::Done => open_arrays(p, numbers, message),
+        Answer::Refused(refusal) => Opened::Refused(refusal),
+    }
 }

@@ -1,19 +1,20 @@
 // The first file: a private one, as far as its own head says.
 ghost use mathlib.Core.Path.{_≡_};
-ghost use Prim.Native.Nat.{_*_, _≤_, min};
+ghost use Prim.Native.Nat.{min};
 ghost use lib.ListN.{length};
 ghost use Rattle.refusals.specs.Outcomes.{done};
 ghost use Rattle.parameters.specs.Sets.{setOf};
 ghost use Rattle.files.specs.Files.{fileBytes};
 ghost use Rattle.files.specs.Calls.{readingHead};
-ghost use Rattle.opening.specs.Program.{openingPair, openingFiles, openedIs};
+ghost use Rattle.opening.specs.Program.{openingPair, openingFiles};
+ghost use Rattle.opening.specs.Steps.{Room, openedIs};
 use crate::Opened;
 use crate::least;
 use crate::sealed_files::open_sealed;
 use parameters::Parameters;
 use refusals::Answer;
 
-// The key goes to a lent array.
+// The key goes to the front of the lent numbers.
 fn open_private_in(
     p: Parameters,
     first: &[u8],
@@ -21,21 +22,22 @@ fn open_private_in(
     numbers: &mut [i32],
     message: &mut [u8],
 ) -> Opened
-    requires { ⌜ (readingHead 2 (now first) ≡ done (setOf p)) × (length (now numbers) ≡ 2 * p .n * 4) × (length (now message) ≡ 256) ⌝ }
+    requires { ⌜ (readingHead 2 (now first) ≡ done (setOf p)) × Room (now numbers) (now message) ⌝ }
     ensures { λ r. ⌜ openedIs r (now (message .exit)) ≡ openingPair (now (first .entry)) (now (second .entry)) ⌝ }
 {
-    match files::read(files::PRIVATE, first, numbers) {
-        Answer::Done => open_sealed(p, numbers, second, message),
+    let n = p.n;
+    let k = files::file_numbers(files::kinds::PRIVATE, n);
+    match files::read(files::kinds::PRIVATE, first, &mut numbers[..k]) {
+        Answer::Done => open_sealed(p, second, numbers, message),
         Answer::Refused(refusal) => Opened::Refused(refusal),
     }
 }
 
 // Where the first file ends: after its length, or with the input.
-fn first_end(n: usize, all: usize) -> usize
-    requires { ⌜ n ≤ 1024 ⌝ }
+fn first_end(n: u32, all: usize) -> usize
     ensures { λ r. ⌜ r ≡ min (fileBytes 2 n) all ⌝ }
 {
-    least(16 + 16 * n, all)
+    least(files::file_bytes(files::kinds::PRIVATE, n), all)
 }
 
 pub(crate) fn open_private(p: Parameters, input: &[u8], message: &mut [u8]) -> Opened
@@ -43,8 +45,14 @@ pub(crate) fn open_private(p: Parameters, input: &[u8], message: &mut [u8]) -> O
     ensures { λ r. ⌜ openedIs r (now (message .exit)) ≡ openingFiles (now (input .entry)) ⌝ }
 {
     let n = p.n;
-    let k = 8 * (n as usize);
-    let end = first_end(n as usize, input.len());
+    let end = first_end(n, input.len());
     let mut numbers = files::four_arrays();
-    open_private_in(p, &input[..end], &input[end..], &mut numbers[..k], message)
+    let all = 8192;
+    open_private_in(
+        p,
+        &input[..end],
+        &input[end..],
+        &mut numbers[..all],
+        message,
+    )
 }

@@ -1,60 +1,57 @@
-// The second file: a sealed one.
+// The second file: a sealed one. The numbers of the first one are at the front of the lent ones.
 ghost use mathlib.Core.Path.{_≡_};
-ghost use mathlib.Core.List.{_++_};
-ghost use Prim.Native.Nat.{_*_};
-ghost use lib.ListN.{length};
 ghost use Rattle.refusals.specs.Outcomes.{done, outcome};
-ghost use Rattle.parameters.specs.Sets.{setOf, parameterChecks};
-ghost use Rattle.files.specs.Files.{arraysOf, headOf};
-ghost use Rattle.files.specs.Calls.{setChecks, readingHead};
-ghost use Rattle.opening.specs.Program.{fileChecks, numbersOf, pairChecks, messageOf, openedIs};
+ghost use Rattle.refusals.specs.Numbers.{answered};
+ghost use Rattle.parameters.specs.Sets.{setOf};
+ghost use Rattle.files.specs.Calls.{readingHead};
+ghost use Rattle.opening.specs.Program.{inverseChecks};
+ghost use Rattle.opening.specs.Steps.{KeyRead, keyIn, Room, openingSealed, openedIs};
 use crate::Opened;
+use crate::keys::key_refusal;
 use crate::messages::open_pair;
 use parameters::Made;
 use parameters::Parameters;
 use refusals::Answer;
 
-// The sealed array goes to a lent one.
+// The sealed array takes the place of Fq and g, which opening does not use.
 fn open_sealed_in(
     p: Parameters,
-    numbers: &[i32],
+    key: Answer,
     sealed: Parameters,
     file: &[u8],
-    e: &mut [i32],
+    numbers: &mut [i32],
     message: &mut [u8],
 ) -> Opened
-    requires { ⌜ (outcome (parameterChecks (setOf p)) (tt {0}) ≡ done (tt {0})) × (length (now numbers) ≡ 2 * p .n * 4) × (outcome (setChecks (setOf p) (arraysOf 2) (now numbers)) (tt {0}) ≡ done (tt {0})) × (readingHead 3 (now file) ≡ done (setOf sealed)) × (length (now e) ≡ 2 * sealed .n) × (length (now message) ≡ 256) ⌝ }
-    ensures { λ r. ⌜ openedIs r (now (message .exit)) ≡ outcome (fileChecks 3 (now (file .entry)) ++ pairChecks (setOf p) (now (numbers .entry)) (headOf (now (file .entry)))) (messageOf (setOf p) (now (numbers .entry)) (numbersOf (now (file .entry)))) ⌝ }
+    requires { ⌜ KeyRead (setOf p) (keyIn (setOf p) (now numbers)) × Room (now numbers) (now message) ⌝ }
+    requires { ⌜ answered key ≡ outcome (inverseChecks (setOf p) (keyIn (setOf p) (now numbers))) tt ⌝ }
+    requires { ⌜ readingHead 3 (now file) ≡ done (setOf sealed) ⌝ }
+    ensures { λ r. ⌜ openedIs r (now (message .exit)) ≡ openingSealed (setOf p) (keyIn (setOf p) (now (numbers .entry))) (now (file .entry)) ⌝ }
 {
-    match files::read(files::SEALED, file, e) {
-        Answer::Done => open_pair(p, numbers, sealed, e, message),
+    let n = p.n;
+    let sealed_n = sealed.n;
+    let f2_end = 4 * (n as usize);
+    let end = f2_end + 2 * (sealed_n as usize);
+    match files::read(files::kinds::SEALED, file, &mut numbers[f2_end..end]) {
+        Answer::Done => open_pair(p, key, sealed, numbers, message),
         Answer::Refused(refusal) => Opened::Refused(refusal),
     }
 }
 
-fn open_sealed_with(
+// Judges the file by its own head. The key check runs first, though its refusals come last.
+pub(crate) fn open_sealed(
     p: Parameters,
-    numbers: &[i32],
-    sealed: Parameters,
     file: &[u8],
+    numbers: &mut [i32],
     message: &mut [u8],
 ) -> Opened
-    requires { ⌜ (outcome (parameterChecks (setOf p)) (tt {0}) ≡ done (tt {0})) × (length (now numbers) ≡ 2 * p .n * 4) × (outcome (setChecks (setOf p) (arraysOf 2) (now numbers)) (tt {0}) ≡ done (tt {0})) × (readingHead 3 (now file) ≡ done (setOf sealed)) × (length (now message) ≡ 256) ⌝ }
-    ensures { λ r. ⌜ openedIs r (now (message .exit)) ≡ outcome (fileChecks 3 (now (file .entry)) ++ pairChecks (setOf p) (now (numbers .entry)) (headOf (now (file .entry)))) (messageOf (setOf p) (now (numbers .entry)) (numbersOf (now (file .entry)))) ⌝ }
+    requires { ⌜ KeyRead (setOf p) (keyIn (setOf p) (now numbers)) × Room (now numbers) (now message) ⌝ }
+    ensures { λ r. ⌜ openedIs r (now (message .exit)) ≡ openingSealed (setOf p) (keyIn (setOf p) (now (numbers .entry))) (now (file .entry)) ⌝ }
 {
-    let n = sealed.n;
-    let k = 2 * (n as usize);
-    let mut e = etru::zeros();
-    open_sealed_in(p, numbers, sealed, file, &mut e[..k], message)
-}
-
-// Judges the file by its own head.
-pub(crate) fn open_sealed(p: Parameters, numbers: &[i32], file: &[u8], message: &mut [u8]) -> Opened
-    requires { ⌜ (outcome (parameterChecks (setOf p)) (tt {0}) ≡ done (tt {0})) × (length (now numbers) ≡ 2 * p .n * 4) × (outcome (setChecks (setOf p) (arraysOf 2) (now numbers)) (tt {0}) ≡ done (tt {0})) × (length (now message) ≡ 256) ⌝ }
-    ensures { λ r. ⌜ openedIs r (now (message .exit)) ≡ outcome (fileChecks 3 (now (file .entry)) ++ pairChecks (setOf p) (now (numbers .entry)) (headOf (now (file .entry)))) (messageOf (setOf p) (now (numbers .entry)) (numbersOf (now (file .entry)))) ⌝ }
-{
-    match files::read_head(files::SEALED, file) {
-        Made::Accepted(sealed) => open_sealed_with(p, numbers, sealed, file, message),
+    let n = p.n;
+    let k = files::file_numbers(files::kinds::PRIVATE, n);
+    let key = key_refusal(p, &numbers[..k]);
+    match files::read_head(files::kinds::SEALED, file) {
+        Made::Accepted(sealed) => open_sealed_in(p, key, sealed, file, numbers, message),
         Made::Refused(refusal) => Opened::Refused(refusal),
     }
 }

@@ -7,7 +7,7 @@ use Rattle.etru_open.proofs.main.Statement.{statement}
 use Rattle.etru_open.proofs.main.Tie as tie
 
 within : tie.Need-array-share-prefix-line
-within c = line-within _ _ _ _ _ (c .before .before .before .before .before .line-buffer .ensures) (search needs) (c .before .open-files .ensures .1) (c .before .open-files .ensures .2)
+within c = line-within _ _ _ _ _ (c .before .before .before .before .before .line-buffer .ensures) (search needs) (c .before .open-files .ensures .0 .1) (c .before .open-files .ensures .1 .1)
 
 pub main-spec : {M : Type 1} → statement M
 main-spec =

@@ -1,17 +1,18 @@
 -- `read` meets its contract: the head and its parameters, then what follows them.
-use mathlib.Core.Path.{_≡_, sym, _∙_, ap, subst}
+use mathlib.Core.Path.{_≡_, refl, sym, _∙_, ap, subst}
 use mathlib.Core.List.{List, _++_, append-assoc}
 use borrow.Author.Needs.{needs}
 use denote.Ref.{now}
 use lib.IntN.{ℤ}
-use lib.ListN.{length, drop}
-use Rattle.refusals.specs.Outcomes.{Check, Outcome, done, refused, outcome, number, written}
+use lib.ListN.{length}
+use Rattle.refusals.specs.Outcomes.{Check, refused, outcome, Passes}
 use Rattle.refusals.specs.Numbers.{numberOf}
 use Rattle.refusals.proofs.Checks.{passed-all, refused-first, done-parts, done-all, refused-plain}
 use Rattle.refusals.proofs.Numbers.{number-positive}
 use Rattle.parameters.specs.Sets.{ParameterSet, setOf, parameterChecks, made}
-use Rattle.files.specs.Files.{headOf, numbersFrom}
-use Rattle.files.specs.Calls.{headChecks, readingHead, contentChecks, readingChecks, reading}
+use Rattle.files.specs.Files.{headOf, numbersOf}
+use Rattle.files.specs.Calls.{headChecks, readingHead, storedChecks, readingChecks, reading}
+use Rattle.files.proofs.Given.{gives-same}
 use Rattle.files.proofs.read.Statement.{statement}
 use Rattle.files.proofs.read.Tie as tie
 
@@ -22,10 +23,10 @@ abbrev P : tie.Start → ParameterSet
 P s = headOf (s .args .file .now)
 
 abbrev value-of : tie.Start → List ℤ
-value-of s = numbersFrom (drop 16 (s .args .file .now))
+value-of s = numbersOf (s .args .file .now)
 
 abbrev content : tie.Start → ParameterSet → List Check
-content s p = contentChecks (s .args .kind) p (value-of s) (length (s .args .numbers .now)) (length (s .args .file .now))
+content s p = storedChecks (s .args .kind) p (s .args .file .now) (length (s .args .numbers .now))
 
 head-is : (c : tie.After-read-head) → made (c .read-head .result) ≡ outcome (head (c .before .before) ++ parameterChecks (P (c .before .before))) (P (c .before .before))
 unfolding readingHead
@@ -33,8 +34,8 @@ head-is c = c .read-head .ensures
 
 -- the head is accepted, and with it the parameters
 record Read (c : tie.After-known-told) : Type 0 where
-  at-head : outcome (head (c .before .before .before .before .before)) (tt {0}) ≡ done (tt {0})
-  accepted : outcome (parameterChecks (P (c .before .before .before .before .before))) (tt {0}) ≡ done (tt {0})
+  at-head : Passes (head (c .before .before .before .before .before))
+  accepted : Passes (parameterChecks (P (c .before .before .before .before .before)))
   same : P (c .before .before .before .before .before) ≡ setOf (c .before .p .given .0 .0)
 
 head-read : (c : tie.After-known-told) → Read c
@@ -69,13 +70,10 @@ read-spec =
     (tie.spec
     (λ c κs. search needs)
     (λ c. search needs)
-    (λ c κs. let r = head-read (c .before) in subst (λ (p : ParameterSet). outcome (parameterChecks p) (tt {0}) ≡ done (tt {0})) (r .same) (r .accepted))
+    (λ c κs. let r = head-read (c .before) in subst (λ (p : ParameterSet). Passes (parameterChecks p)) (r .same) (r .accepted))
     (λ c. search needs)
     (λ c. search needs)
     (λ c.
     let r = c .before .before .before in
-    let s = r .before .before .before .before .before in
-    (c .before .read-content .ensures .0 ∙ sym (ap number (read-on r)), c .before .read-content .ensures .1 ∙ sym (ap (λ (x : Outcome (List ℤ)). written x (now (s .args .numbers))) (read-on r))))
-    (λ c.
-    let s = c .before .before .before .before .before in
-    (sym (ap number (head-refused c)), sym (ap (λ (x : Outcome (List ℤ)). written x (now (s .args .numbers))) (head-refused c)))))
+    gives-same (now (r .before .before .before .before .before .args .numbers)) (read-on r) (c .before .read-content .ensures))
+    (λ c. gives-same (now (c .before .before .before .before .before .args .numbers)) (head-refused c) (refl, refl)))

@@ -1,7 +1,7 @@
 -- `read_head` meets its contract: the checks of the head, then those of the parameters.
 use mathlib.Core.Path.{_≡_, sym, _∙_, ap}
 use borrow.Author.Needs.{needs}
-use Rattle.refusals.specs.Outcomes.{done, outcome}
+use Rattle.refusals.specs.Outcomes.{outcome, Passes}
 use Rattle.refusals.specs.Numbers.{answered}
 use Rattle.refusals.proofs.Checks.{passed-all, refused-first}
 use Rattle.parameters.specs.Sets.{parameterChecks, parameters}
@@ -14,7 +14,7 @@ use Rattle.files.proofs.read_head.Tie as tie
 refusal-is : (c : tie.After-head-refusal) → answered (c .head-refusal .result) ≡ outcome (headChecks (c .before .before .args .kind) (c .before .before .args .file .now)) (tt {0})
 refusal-is c = c .head-refusal .ensures
 
-passed : (c : tie.After-enum-told) → outcome (headChecks (c .before .before .before .before .args .kind) (c .before .before .before .before .args .file .now)) (tt {0}) ≡ done (tt {0})
+passed : (c : tie.After-enum-told) → Passes (headChecks (c .before .before .before .before .args .kind) (c .before .before .before .before .args .file .now))
 passed c = sym (refusal-is (c .before .before)) ∙ ap answered (c .enum-told .given .1)
 
 pub read-head-spec : {M : Type 1} → statement M

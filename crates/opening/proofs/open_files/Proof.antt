@@ -1,11 +1,11 @@
 -- `open_files` meets its contract.
-use mathlib.Core.Path.{sym, _∙_, ap}
+use mathlib.Core.Path.{refl, _∙_, ap}
 use mathlib.Core.List.{List, _++_}
 use Prim.Native.Nat.{ℕ}
 use borrow.Author.Needs.{needs}
 use denote.Ref.{now}
 use lib.ListN.{length, drop}
-use Rattle.refusals.specs.Outcomes.{Outcome, number, written}
+use Rattle.files.proofs.Given.{gives-same}
 use Rattle.opening.specs.Program.{openingLine, lineWriting, lineLength}
 use Rattle.opening.proofs.LineRoom.{room-wrong, room-right}
 use Rattle.opening.proofs.open_files.Statement.{statement}
@@ -25,11 +25,8 @@ open-files-spec =
     (λ c.
     let s = c .before .before .before in
     let o = room-wrong (length (s .args .line .now)) (value-of s) (c .if1 .taken) in
-    let u = room-wrong (length (s .args .line .now)) (length (line s)) (c .if1 .taken) in (
-      sym (ap number o),
-      sym (ap (λ (x : Outcome (List ℕ)). written x (now (s .args .line))) o),
-      sym (ap (λ (x : Outcome ℕ). written x (now (s .args .used))) u),
-    ))
+    let u = room-wrong (length (s .args .line .now)) (length (line s)) (c .if1 .taken) in
+    (gives-same (now (s .args .line)) o (refl, refl), gives-same (now (s .args .used)) u (refl, refl)))
     (λ c κs. search needs)
     (λ c. search needs)
     (λ c.
@@ -38,7 +35,6 @@ open-files-spec =
     let n = w .before .before .if1 .left in
     let o = room-right (length (s .args .line .now)) (value-of s) n in
     let u = room-right (length (s .args .line .now)) (length (line s)) n in (
-      sym (ap number o),
-      w .write-line .ensures .1 ∙ ap (λ (k : ℕ). line s ++ drop k (s .args .line .now)) (w .write-line .ensures .0) ∙ sym (ap (λ (x : Outcome (List ℕ)). written x (now (s .args .line))) o),
-      w .write-line .ensures .0 ∙ sym (ap (λ (x : Outcome ℕ). written x (now (s .args .used))) u),
+      gives-same (now (s .args .line)) o (refl, w .write-line .ensures .1 ∙ ap (λ (k : ℕ). line s ++ drop k (s .args .line .now)) (w .write-line .ensures .0)),
+      gives-same (now (s .args .used)) u (refl, w .write-line .ensures .0),
     )))

@@ -10,7 +10,7 @@ use lib.Seq.{length-take-le}
 use Rattle.refusals.specs.Outcomes.{refused, done}
 use Rattle.refusals.proofs.Numbers.{two-digits}
 use Rattle.opening.specs.Lines.{lineOf}
-use Rattle.opening.specs.Program.{openedIs}
+use Rattle.opening.specs.Steps.{openedIs}
 use Rattle.opening.specs.declared.Opened.{Opened}
 use Rattle.opening.proofs.Parts.{end-taken}
 use Rattle.opening.proofs.write_opened.Statement.{statement}

@@ -9,13 +9,14 @@ use lib.Seq.{length-take-le}
 use Rattle.refusals.specs.Outcomes.{Check, outcome}
 use Rattle.refusals.specs.Numbers.{answered}
 use Rattle.parameters.specs.Sets.{setOf}
-use Rattle.etru.specs.declared.ArraySet.the-variants.{ReducedModuloQ}
-use Rattle.etru.specs.Calls.{arrayCheck}
-use Rattle.etru.proofs.AcceptedParameters.{accepted-parameters}
+use Rattle.arrays.specs.declared.ArraySet.the-variants.{ReducedModuloQ}
+use Rattle.arrays.specs.Arrays.{arrayCheck}
+use Rattle.parameters.proofs.AcceptedParameters.{accepted-parameters}
 use Rattle.files.specs.Files.{arraysOf, arrayAt}
 use Rattle.files.specs.Calls.{setChecks}
 use Rattle.files.proofs.Bounds.{numbers-few, end-of-array}
-use Rattle.files.proofs.SetChecks.{own, own-check, first-array, set-at, from-array, array-passed, array-refused, all-arrays-passed}
+use Rattle.arrays.proofs.ArrayChecks.{own, own-check}
+use Rattle.files.proofs.SetChecks.{first-array, set-at, from-array, array-passed, array-refused, all-arrays-passed}
 use Rattle.files.proofs.contents.sets_refusal.Statement.{statement}
 use Rattle.files.proofs.contents.sets_refusal.Tie as tie
 

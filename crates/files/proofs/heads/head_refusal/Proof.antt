@@ -8,7 +8,7 @@ use lib.Dec.{ltb, eqb}
 use lib.ListN.{length, getD}
 use Rattle.refusals.specs.Outcomes.{Check, _if_, outcome}
 use Rattle.refusals.proofs.Checks.{refused-by, passed, fails-refused, none-left}
-use Rattle.parameters.specs.Sets.{outside}
+use Rattle.files.specs.Files.{knownKind, headLength}
 use Rattle.files.specs.Calls.{marked, versionOne, headChecks}
 use Rattle.files.proofs.heads.head_refusal.Statement.{statement}
 use Rattle.files.proofs.heads.head_refusal.Tie as tie
@@ -21,7 +21,7 @@ abbrev test-18 : tie.Start → Bool
 test-18 s = versionOne (s .args .file .now)
 
 abbrev test-19 : tie.Start → Bool
-test-19 s = not (outside 1 3 (s .args .kind)) && eqb (getD (s .args .file .now) 5 0) (s .args .kind)
+test-19 s = knownKind (s .args .kind) && eqb (getD (s .args .file .now) 5 0) (s .args .kind)
 
 abbrev from-19 : tie.Start → List Check
 from-19 s = 19 if not (test-19 s) ∷ []
@@ -33,7 +33,7 @@ abbrev from-17 : tie.Start → List Check
 from-17 s = 17 if not (test-17 s) ∷ from-18 s
 
 abbrev from-16 : tie.Start → List Check
-from-16 s = 16 if ltb (length (s .args .file .now)) 16 ∷ from-17 s
+from-16 s = 16 if ltb (length (s .args .file .now)) headLength ∷ from-17 s
 
 -- each test, from what its call returned
 tested-17 : (c : tie.After-marked-eiz) → test-17 (c .before .before .before) ≡ c .marked-eiz .result
@@ -47,7 +47,7 @@ tested-19 c = sym (c .kind-wanted .ensures)
 
 -- the checks that have been passed
 after-16 : (c : tie.Else1) → outcome (from-16 (c .before .before)) (tt {0}) ≡ outcome (from-17 (c .before .before)) (tt {0})
-after-16 c = passed 16 (from-17 (c .before .before)) tt (le-ltb (length (c .before .before .args .file .now)) 16 (c .if1 .left))
+after-16 c = passed 16 (from-17 (c .before .before)) tt (le-ltb (length (c .before .before .args .file .now)) headLength (c .if1 .left))
 
 after-17 : (c : tie.Else2) → outcome (from-16 (c .before .before .before .before)) (tt {0}) ≡ outcome (from-18 (c .before .before .before .before)) (tt {0})
 after-17 c = after-16 (c .before .before) ∙ passed 17 (from-18 (c .before .before .before .before)) tt (ap not (tested-17 (c .before) ∙ not-false _ (c .if2 .left)))
@@ -61,7 +61,7 @@ unfolding headChecks
 head-refusal-spec =
     tie.close
     (tie.spec
-    (λ c. sym (refused-by 16 (from-17 (c .before .before)) tt (lt-ltb (length (c .before .before .args .file .now)) 16 (c .if1 .taken))))
+    (λ c. sym (refused-by 16 (from-17 (c .before .before)) tt (lt-ltb (length (c .before .before .args .file .now)) headLength (c .if1 .taken))))
     (λ c κs. search needs)
     (λ c. sym (after-16 (c .before .before) ∙ fails-refused 17 (test-17 (c .before .before .before .before)) (from-18 (c .before .before .before .before)) tt (tested-17 (c .before) ∙ not-true _ (c .if2 .taken))))
     (λ c κs. search needs)

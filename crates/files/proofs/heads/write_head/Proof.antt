@@ -2,7 +2,6 @@
 use mathlib.Core.Path.{_≡_, sym, _∙_, ap, ap₂, subst}
 use mathlib.Core.List.{List, _∷_, _++_}
 use Prim.Native.Nat.{ℕ, _^_, _≤_}
-use native.Mathlib.Omega.{arith}
 use native.Mathlib.Nat.{le-trans}
 use borrow.Author.Needs.{needs}
 use lib.Dec.{lit≤}
@@ -13,9 +12,9 @@ use mir.Val.{toZ, ofZ}
 use mir.Facts.{toZ-ofZ}
 use Rattle.eisenstein.proofs.Limits.{within}
 use Rattle.parameters.specs.Sets.{setOf}
-use Rattle.parameters.proofs.Ranges.{in-range}
-use Rattle.etru.proofs.AcceptedParameters.{accepted-parameters}
-use Rattle.files.specs.Files.{bytes16, bits16, headBytes}
+use Rattle.parameters.proofs.AcceptedParameters.{accepted-parameters}
+use Rattle.files.specs.Files.{headLength, version, bytes16, bits16, headBytes}
+use Rattle.files.proofs.ArraysOfKinds.{kind-small}
 use Rattle.files.proofs.Passed.{parts-fit}
 use Rattle.files.proofs.heads.write_head.Statement.{statement}
 use Rattle.files.proofs.heads.write_head.Tie as tie
@@ -34,7 +33,7 @@ small y z e h = subst (λ (x : ℤ). natAbs x ≤ 2 ^ 13) (sym e) (le-trans h (l
 
 -- the bytes, from the bits of q's parts
 bytes : tie.Start → ℕ → ℕ → List ℕ
-bytes s c d = 69 ∷ 73 ∷ 90 ∷ 0 ∷ 1 ∷ s .args .kind ∷ bytes16 (s .args .p .n) ++ (bytes16 c ++ (bytes16 d ++ (bytes16 (s .args .p .s) ++ bytes16 (s .args .p .t))))
+bytes s c d = 69 ∷ 73 ∷ 90 ∷ bytes16 version ++ (s .args .kind ∷ bytes16 (s .args .p .n) ++ (bytes16 c ++ (bytes16 d ++ (bytes16 (s .args .p .s) ++ bytes16 (s .args .p .t)))))
 
 pub write-head-spec : {M : Type 1} → statement M
 unfolding headBytes bytes
@@ -46,10 +45,10 @@ write-head-spec =
     (λ c κs.
     let s = c .before .before .before .before .before .before in
     let k = parts-fit (setOf (s .args .p)) (s .pre .1) in
-    (omega (arith, in-range 1 3 (s .args .kind) (s .pre .0)), k .N-fits, c .before .before .bits-of .ensures .1, c .before .bits-of2 .ensures .1, k .s-fits, k .t-fits, s .pre .2))
+    (kind-small (s .args .kind) (s .pre .0), k .N-fits, c .before .before .bits-of .ensures .1, c .before .bits-of2 .ensures .1, k .s-fits, k .t-fits, s .pre .2))
     (λ c. search needs)
     (λ c.
     let w = c .before .before in
     let s = w .before .before .before .before .before .before .before in
     w .write-head-bytes .ensures
-    ∙ ap₂ (λ (x y : ℕ). bytes s x y ++ drop 16 (s .args .file .now)) (w .before .before .before .bits-of .ensures .0 ∙ ap bits16 (c-read s)) (w .before .before .bits-of2 .ensures .0 ∙ ap bits16 (d-read s))))
+    ∙ ap₂ (λ (x y : ℕ). bytes s x y ++ drop headLength (s .args .file .now)) (w .before .before .before .bits-of .ensures .0 ∙ ap bits16 (c-read s)) (w .before .before .bits-of2 .ensures .0 ∙ ap bits16 (d-read s))))

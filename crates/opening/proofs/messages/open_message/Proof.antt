@@ -18,7 +18,7 @@ use Rattle.packing.specs.Messages.{messageBytes, unpacked}
 use Rattle.packing.proofs.RoundTrips.{unpacked-length}
 use Rattle.etru.specs.Scheme.{opened}
 use Rattle.etru.specs.Calls.{openingChecks, opening}
-use Rattle.etru.proofs.AcceptedParameters.{accepted-parameters}
+use Rattle.parameters.proofs.AcceptedParameters.{accepted-parameters}
 use Rattle.opening.proofs.messages.open_message.Statement.{statement}
 use Rattle.opening.proofs.messages.open_message.Tie as tie
 
@@ -26,7 +26,7 @@ use Rattle.opening.proofs.messages.open_message.Tie as tie
 opening-done : (p : ParameterSet) (f F2 e : List ℤ) (room : ℕ) (old new : List ℕ) → number (opening p f F2 e room) ≡ 0 → new ≡ written (opening p f F2 e room) old → (opening p f F2 e room ≡ done new) × (length new ≡ messageBytes (p .N))
 unfolding opening openingChecks parameterChecks
 opening-done p f F2 e room old new z w =
-    let cs = parameterChecks p ++ openingChecks (p .N) (p .q) (p .t) f F2 e room in
+    let cs = parameterChecks p ++ openingChecks p f F2 e room in
     let m = opened p (coefficient f) (coefficient F2) (coefficient e) in
     let d = done-as-written cs (unpacked (p .N) m) old new tt z w in
     (d, ap length (sym (done-parts cs (unpacked (p .N) m) new d .1)) ∙ unpacked-length (p .N) m)

@@ -1,0 +1,33 @@
+// The numbers of arrays as they are stored: read from bytes, and written to them.
+ghost use mathlib.Core.Path.{_≡_};
+ghost use Prim.Native.Nat.{_*_};
+ghost use lib.ListN.{length};
+ghost use Rattle.arrays.specs.Arrays.{Small};
+ghost use Rattle.files.specs.Files.{numbersFrom, bytesOf};
+use crate::bytes::bits_of;
+use crate::bytes::signed_at;
+
+pub(crate) fn read_numbers(bytes: &[u8], numbers: &mut [i32])
+    requires { ⌜ length (now bytes) ≡ 2 * length (now numbers) ⌝ }
+    ensures { λ _. ⌜ now (numbers .exit) ≡ numbersFrom (now (bytes .entry)) ⌝ }
+{
+    let mut k = 0;
+    while k < numbers.len() {
+        let z = signed_at(bytes, 2 * k);
+        numbers[k] = z;
+        k += 1;
+    }
+}
+
+pub(crate) fn write_numbers(numbers: &[i32], bytes: &mut [u8])
+    requires { ⌜ (length (now bytes) ≡ 2 * length (now numbers)) × Small (now numbers) ⌝ }
+    ensures { λ _. ⌜ now (bytes .exit) ≡ bytesOf (now (numbers .entry)) ⌝ }
+{
+    let mut i = 0;
+    while i < numbers.len() {
+        let bits = bits_of(numbers[i]);
+        bytes[2 * i] = (bits / 256) as u8;
+        bytes[2 * i + 1] = (bits % 256) as u8;
+        i += 1;
+    }
+}
