@@ -1,14 +1,15 @@
 // The interface for C. Each function returns document 01's refusal number, 0 if nothing is refused, and writes to its outputs only then.
 // It decides nothing: each function hands its arguments on, and `include/etru.h` is its manual.
-// At every N `etru_open_files` takes 105 KiB of stack, `etru_open` 57 KiB, `etru_check_key` 49 KiB, `etru_seal` 41 KiB, `etru_read` 33 KiB, and each other function less than 1 KiB.
+// At every N `etru_open_files` takes at most 72 KiB of stack, `etru_open` and `etru_check_key` 28 KiB, `etru_seal` and `etru_read` 12 KiB, and each other function 1 KiB.
 ghost use mathlib.Core.Path.{_≡_};
 ghost use lib.ListN.{length};
-ghost use Rattle.refusals.specs.Outcomes.{number, written};
+ghost use Rattle.refusals.specs.Outcomes.{number, Gives};
 ghost use Rattle.eisenstein.specs.Values.{value};
 ghost use Rattle.eisenstein.specs.Calls.{reduceQ, reduce2, answered};
 ghost use Rattle.parameters.specs.Sets.{set, parameters, made};
 ghost use Rattle.packing.specs.Calls.{packing, unpacking};
-ghost use Rattle.etru.specs.Calls.{convolving, keyCheck, sealing, opening};
+ghost use Rattle.products.specs.Products.{convolving};
+ghost use Rattle.etru.specs.Calls.{keyCheck, sealing, opening};
 ghost use Rattle.files.specs.Calls.{readingHead, reading, writing};
 ghost use Rattle.opening.specs.Program.{lineWriting, lineLength};
 use eisenstein::Reduced;
@@ -17,7 +18,7 @@ use parameters::Parameters;
 
 // Hands an answer on: a remainder to the outputs, or a refusal's number alone.
 fn give(answer: Reduced, ra: &mut i32, rb: &mut i32) -> u32
-    ensures { λ r. ⌜ (r ≡ number (answered answer)) × (value (now (ra .exit)) (now (rb .exit)) ≡ written (answered answer) (value (now (ra .entry)) (now (rb .entry)))) ⌝ }
+    ensures { λ r. ⌜ Gives (answered answer) r (value (now (ra .entry)) (now (rb .entry))) (value (now (ra .exit)) (now (rb .exit))) ⌝ }
 {
     match answer {
         Reduced::Remainder(r) => {
@@ -34,7 +35,7 @@ fn give(answer: Reduced, ra: &mut i32, rb: &mut i32) -> u32
 // The remainder of (a, b) modulo q = (c, d), to ra and rb.
 #[no_mangle]
 pub extern "C" fn etru_reduce_q(a: i64, b: i64, c: i32, d: i32, ra: &mut i32, rb: &mut i32) -> u32
-    ensures { λ r. ⌜ (r ≡ number (reduceQ (value c d) (value a b))) × (value (now (ra .exit)) (now (rb .exit)) ≡ written (reduceQ (value c d) (value a b)) (value (now (ra .entry)) (now (rb .entry)))) ⌝ }
+    ensures { λ r. ⌜ Gives (reduceQ (value c d) (value a b)) r (value (now (ra .entry)) (now (rb .entry))) (value (now (ra .exit)) (now (rb .exit))) ⌝ }
 {
     give(eisenstein::reduce_q(a, b, c, d), ra, rb)
 }
@@ -42,7 +43,7 @@ pub extern "C" fn etru_reduce_q(a: i64, b: i64, c: i32, d: i32, ra: &mut i32, rb
 // The remainder of (a, b) modulo 2, to ra and rb.
 #[no_mangle]
 pub extern "C" fn etru_reduce_2(a: i64, b: i64, ra: &mut i32, rb: &mut i32) -> u32
-    ensures { λ r. ⌜ (r ≡ number (reduce2 (value a b))) × (value (now (ra .exit)) (now (rb .exit)) ≡ written (reduce2 (value a b)) (value (now (ra .entry)) (now (rb .entry)))) ⌝ }
+    ensures { λ r. ⌜ Gives (reduce2 (value a b)) r (value (now (ra .entry)) (now (rb .entry))) (value (now (ra .exit)) (now (rb .exit))) ⌝ }
 {
     give(eisenstein::reduce_2(a, b), ra, rb)
 }
@@ -68,10 +69,10 @@ pub extern "C" fn etru_convolve(
     y: &[i32],
     out: &mut [i32],
 ) -> u32
-    ensures { λ r. ⌜ (r ≡ number (convolving (set n c d s t) (now (x .entry)) (now (y .entry)) (length (now (out .entry))))) × (now (out .exit) ≡ written (convolving (set n c d s t) (now (x .entry)) (now (y .entry)) (length (now (out .entry)))) (now (out .entry))) ⌝ }
+    ensures { λ r. ⌜ Gives (convolving (set n c d s t) (now (x .entry)) (now (y .entry)) (length (now (out .entry)))) r (now (out .entry)) (now (out .exit)) ⌝ }
 {
     let p = Parameters { n, c, d, s, t };
-    etru::convolve(p, x, y, out).number()
+    products::convolve(p, x, y, out).number()
 }
 
 // Checks a key. The public key goes to h.
@@ -88,7 +89,7 @@ pub extern "C" fn etru_check_key(
     g: &[i32],
     h: &mut [i32],
 ) -> u32
-    ensures { λ r. ⌜ (r ≡ number (keyCheck (set n c d s t) (now (f .entry)) (now (f2 .entry)) (now (fq .entry)) (now (g .entry)) (length (now (h .entry))))) × (now (h .exit) ≡ written (keyCheck (set n c d s t) (now (f .entry)) (now (f2 .entry)) (now (fq .entry)) (now (g .entry)) (length (now (h .entry)))) (now (h .entry))) ⌝ }
+    ensures { λ r. ⌜ Gives (keyCheck (set n c d s t) (now (f .entry)) (now (f2 .entry)) (now (fq .entry)) (now (g .entry)) (length (now (h .entry)))) r (now (h .entry)) (now (h .exit)) ⌝ }
 {
     let p = Parameters { n, c, d, s, t };
     etru::check_key(p, f, f2, fq, g, h).number()
@@ -107,7 +108,7 @@ pub extern "C" fn etru_seal(
     message: &[u8],
     e: &mut [i32],
 ) -> u32
-    ensures { λ r. ⌜ (r ≡ number (sealing (set n c d s t) (now (h .entry)) (now (phi .entry)) (now (message .entry)) (length (now (e .entry))))) × (now (e .exit) ≡ written (sealing (set n c d s t) (now (h .entry)) (now (phi .entry)) (now (message .entry)) (length (now (e .entry)))) (now (e .entry))) ⌝ }
+    ensures { λ r. ⌜ Gives (sealing (set n c d s t) (now (h .entry)) (now (phi .entry)) (now (message .entry)) (length (now (e .entry)))) r (now (e .entry)) (now (e .exit)) ⌝ }
 {
     let p = Parameters { n, c, d, s, t };
     etru::seal(p, h, phi, message, e).number()
@@ -126,7 +127,7 @@ pub extern "C" fn etru_open(
     e: &[i32],
     message: &mut [u8],
 ) -> u32
-    ensures { λ r. ⌜ (r ≡ number (opening (set n c d s t) (now (f .entry)) (now (f2 .entry)) (now (e .entry)) (length (now (message .entry))))) × (now (message .exit) ≡ written (opening (set n c d s t) (now (f .entry)) (now (f2 .entry)) (now (e .entry)) (length (now (message .entry)))) (now (message .entry))) ⌝ }
+    ensures { λ r. ⌜ Gives (opening (set n c d s t) (now (f .entry)) (now (f2 .entry)) (now (e .entry)) (length (now (message .entry)))) r (now (message .entry)) (now (message .exit)) ⌝ }
 {
     let p = Parameters { n, c, d, s, t };
     etru::open(p, f, f2, e, message).number()
@@ -135,17 +136,17 @@ pub extern "C" fn etru_open(
 // The polynomial that a message stands for, to m.
 #[no_mangle]
 pub extern "C" fn etru_pack(n: u32, message: &[u8], m: &mut [i32]) -> u32
-    ensures { λ r. ⌜ (r ≡ number (packing n (now (message .entry)) (length (now (m .entry))))) × (now (m .exit) ≡ written (packing n (now (message .entry)) (length (now (m .entry)))) (now (m .entry))) ⌝ }
+    ensures { λ r. ⌜ Gives (packing n (now (message .entry)) (length (now (m .entry)))) r (now (m .entry)) (now (m .exit)) ⌝ }
 {
-    etru::pack(n, message, m).number()
+    packing::pack(n, message, m).number()
 }
 
 // The message that a polynomial stands for, to message.
 #[no_mangle]
 pub extern "C" fn etru_unpack(n: u32, m: &[i32], message: &mut [u8]) -> u32
-    ensures { λ r. ⌜ (r ≡ number (unpacking n (now (m .entry)) (length (now (message .entry))))) × (now (message .exit) ≡ written (unpacking n (now (m .entry)) (length (now (message .entry)))) (now (message .entry))) ⌝ }
+    ensures { λ r. ⌜ Gives (unpacking n (now (m .entry)) (length (now (message .entry)))) r (now (message .entry)) (now (message .exit)) ⌝ }
 {
-    etru::unpack(n, m, message).number()
+    packing::unpack(n, m, message).number()
 }
 
 // Hands parameters on to the outputs, or a refusal's number alone.
@@ -157,7 +158,9 @@ fn give_parameters(
     s: &mut u32,
     t: &mut u32,
 ) -> u32
-    ensures { λ r. ⌜ (r ≡ number (made answer)) × (set (now (n .exit)) (now (c .exit)) (now (d .exit)) (now (s .exit)) (now (t .exit)) ≡ written (made answer) (set (now (n .entry)) (now (c .entry)) (now (d .entry)) (now (s .entry)) (now (t .entry)))) ⌝ }
+    ensures { λ r. ⌜ Gives (made answer) r
+        (set (now (n .entry)) (now (c .entry)) (now (d .entry)) (now (s .entry)) (now (t .entry)))
+        (set (now (n .exit)) (now (c .exit)) (now (d .exit)) (now (s .exit)) (now (t .exit))) ⌝ }
 {
     match answer {
         Made::Accepted(p) => {
@@ -188,7 +191,9 @@ pub extern "C" fn etru_read_head(
     s: &mut u32,
     t: &mut u32,
 ) -> u32
-    ensures { λ r. ⌜ (r ≡ number (readingHead kind (now (file .entry)))) × (set (now (n .exit)) (now (c .exit)) (now (d .exit)) (now (s .exit)) (now (t .exit)) ≡ written (readingHead kind (now (file .entry))) (set (now (n .entry)) (now (c .entry)) (now (d .entry)) (now (s .entry)) (now (t .entry)))) ⌝ }
+    ensures { λ r. ⌜ Gives (readingHead kind (now (file .entry))) r
+        (set (now (n .entry)) (now (c .entry)) (now (d .entry)) (now (s .entry)) (now (t .entry)))
+        (set (now (n .exit)) (now (c .exit)) (now (d .exit)) (now (s .exit)) (now (t .exit))) ⌝ }
 {
     give_parameters(files::read_head(kind, file), n, c, d, s, t)
 }
@@ -196,7 +201,7 @@ pub extern "C" fn etru_read_head(
 // The arrays of a file of the wanted kind, one after another in stored order, to numbers.
 #[no_mangle]
 pub extern "C" fn etru_read(kind: u32, file: &[u8], numbers: &mut [i32]) -> u32
-    ensures { λ r. ⌜ (r ≡ number (reading kind (now (file .entry)) (length (now (numbers .entry))))) × (now (numbers .exit) ≡ written (reading kind (now (file .entry)) (length (now (numbers .entry)))) (now (numbers .entry))) ⌝ }
+    ensures { λ r. ⌜ Gives (reading kind (now (file .entry)) (length (now (numbers .entry)))) r (now (numbers .entry)) (now (numbers .exit)) ⌝ }
 {
     files::read(kind, file, numbers).number()
 }
@@ -213,7 +218,7 @@ pub extern "C" fn etru_write(
     numbers: &[i32],
     file: &mut [u8],
 ) -> u32
-    ensures { λ r. ⌜ (r ≡ number (writing kind (set n c d s t) (now (numbers .entry)) (length (now (file .entry))))) × (now (file .exit) ≡ written (writing kind (set n c d s t) (now (numbers .entry)) (length (now (file .entry)))) (now (file .entry))) ⌝ }
+    ensures { λ r. ⌜ Gives (writing kind (set n c d s t) (now (numbers .entry)) (length (now (file .entry)))) r (now (file .entry)) (now (file .exit)) ⌝ }
 {
     let p = Parameters { n, c, d, s, t };
     files::write(kind, p, numbers, file).number()
@@ -222,7 +227,8 @@ pub extern "C" fn etru_write(
 // The line that the opening program prints for its input, to the front of line, and its length to used. Any input has its line, so 7 for a line that is not lent with 515 bytes is the only refusal.
 #[no_mangle]
 pub extern "C" fn etru_open_files(input: &[u8], line: &mut [u8], used: &mut usize) -> u32
-    ensures { λ r. ⌜ (r ≡ number (lineWriting (now (input .entry)) (now (line .entry)))) × (now (line .exit) ≡ written (lineWriting (now (input .entry)) (now (line .entry))) (now (line .entry))) × (now (used .exit) ≡ written (lineLength (now (input .entry)) (length (now (line .entry)))) (now (used .entry))) ⌝ }
+    ensures { λ r. ⌜ Gives (lineWriting (now (input .entry)) (now (line .entry))) r (now (line .entry)) (now (line .exit)) ⌝ }
+    ensures { λ r. ⌜ Gives (lineLength (now (input .entry)) (length (now (line .entry)))) r (now (used .entry)) (now (used .exit)) ⌝ }
 {
     opening::open_files(input, line, used).number()
 }
