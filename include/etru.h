@@ -17,8 +17,8 @@
 // What a call takes
 //   Nothing is allocated, and there is no global state: calls may run in several threads at once, as long as nobody
 //   changes what is lent to a call, or uses its outputs, before it returns. No call depends on an earlier one.
-//   Stack, at every N: etru_open_files 105 KiB, etru_open 57 KiB, etru_check_key 49 KiB, etru_seal 41 KiB,
-//   etru_read 33 KiB, each other function below 1 KiB.
+//   Stack, at every N: etru_open_files at most 72 KiB, etru_open and etru_check_key 28 KiB, etru_seal and etru_read
+//   12 KiB, each other function 1 KiB.
 //   Of the C library at most memcmp, memcpy, memmove and memset are needed.
 //
 // What is not promised

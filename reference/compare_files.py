@@ -31,7 +31,10 @@ MEGABYTE = 10**6
 # ---- files, right and wrong
 
 # the arrays of each kind in stored order, each with the number of its check
-ORDER = {1: [(12, "h")], 2: [(8, "f"), (11, "f2"), (12, "fq"), (9, "g")], 3: [(12, "e")]}
+ORDER = {PUBLIC_FILE: [(12, "h")], PRIVATE_FILE: [(8, "f"), (11, "f2"), (12, "fq"), (9, "g")], SEALED_FILE: [(12, "e")]}
+KINDS = sorted(reference.KINDS)
+# the number after the last kind
+NO_KIND = KINDS[-1] + 1
 
 
 class File:
@@ -119,7 +122,7 @@ def setting(part, values):
 
 
 def head_spoils(file):
-    kinds = [kind for kind in (0, 1, 2, 3, 4, 128 + file.kind, 255) if kind != file.kind]
+    kinds = [kind for kind in (0, *KINDS, NO_KIND, 128 + file.kind, 255) if kind != file.kind]
     return [
         (16, setting("length", range(16))),
         (17, setting("mark", [b"\0\0\0", b"eiz", b"ZIE", b"DIZ", b"EHZ", b"EIX"])),
@@ -598,14 +601,14 @@ def wrong_rooms(room):
 
 
 def read_steps(rng, file):
-    kinds = [kind for kind in (0, 1, 2, 3, 4, 256 + file.kind, 2**31 + file.kind, HIGH_U32) if kind != file.kind]
+    kinds = [kind for kind in (0, *KINDS, NO_KIND, 256 + file.kind, 2**31 + file.kind, HIGH_U32) if kind != file.kind]
     lengths = wrong_lengths(file) + setting("number_room", wrong_rooms(file.number_room))
     more = {19: setting("wanted", kinds)}
     return [(number, changes + more.get(number, [])) for number, changes in stored_steps(rng, file, lengths)]
 
 
 def write_steps(rng, file):
-    kinds = [0, 4, 5, 255, 256 + file.kind, 2**31 + file.kind, HIGH_U32]
+    kinds = [0, NO_KIND, NO_KIND + 1, 255, 256 + file.kind, 2**31 + file.kind, HIGH_U32]
     lengths = setting("byte_room", wrong_rooms(file.byte_room)) + [lambda file: file.but(n=file.n + 1)]
     for name in file.arrays:
         lengths += in_array(name, [lambda numbers: [], lambda numbers: numbers[:-1]])
@@ -620,7 +623,7 @@ def damaged_file(results, library, rng, file):
     for number, changed in spoiled_in_order(rng, file, write_steps(rng, file)):
         one_write(results, library, rng, changed, number)
     data = file.bytes()
-    for wanted in (0, 1, 2, 3, 4, HIGH_U32):
+    for wanted in (0, *KINDS, NO_KIND, HIGH_U32):
         one_read(results, library, rng, wanted, data, file.number_room, 0 if wanted == file.kind else 19)
     one_read(results, library, rng, file.kind, data + bytes(MEGABYTE), file.number_room, 7)
     for _ in range(100):
@@ -637,6 +640,8 @@ def reading_and_writing(results, library, rng, all_files):
     ]:
         results.expect(f"document 01's file of kind {file.kind}", file.bytes(), data)
         right_file(results, library, rng, file)
+    tried = sorted(file.kind for file in random_files(random.Random(0), 3))
+    results.expect("the kinds that are read and written", tried, KINDS)
     for n in [*range(3, 41), 255, 256, 257, 1023, 1024]:
         for file in random_files(rng, n):
             right_file(results, library, rng, file)
@@ -649,7 +654,7 @@ def reading_and_writing(results, library, rng, all_files):
         one_write(results, library, rng, files.private.but(kind=PUBLIC_FILE), 7)
         one_write(results, library, rng, files.sealed.but(kind=PRIVATE_FILE), 7)
     for _ in range(100):
-        one_read(results, library, rng, rng.randint(0, 4), rng.randbytes(rng.randrange(100)), rng.randrange(20))
+        one_read(results, library, rng, rng.randint(0, NO_KIND), rng.randbytes(rng.randrange(100)), rng.randrange(20))
 
 
 # ---- the maker of files

@@ -13,8 +13,8 @@
 //! Slices of any length, with any contents, and any numbers may be given: what is wrong is refused.
 //! A call that returns an error leaves the outputs that it was lent as they came. No call panics,
 //! allocates or keeps anything, and any may be made from several threads at once. At every N
-//! [`open_files`] takes 105 KiB of stack, [`open`] 57 KiB, [`check_key`] 49 KiB, [`seal`] 41 KiB,
-//! [`read`] 33 KiB and each other call less than 1 KiB.
+//! [`open_files`] takes at most 72 KiB of stack, [`open`] and [`check_key`] 28 KiB, [`seal`] and [`read`] 12 KiB and
+//! each other call 1 KiB.
 //!
 //! # Example
 //!

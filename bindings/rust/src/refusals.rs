@@ -2,123 +2,76 @@
 
 use std::fmt;
 
-/// A refusal of document 01. The names are those of the library.
-#[derive(Clone, Copy, Debug, PartialEq, Eq, Hash)]
-pub enum Refusal {
-    /// 1: N out of range.
-    CoefficientCountOutOfRange = 1,
-    /// 2: a part of q out of range.
-    ModulusPartOutOfRange = 2,
-    /// 3: both parts of q even.
-    ModulusPartsBothEven = 3,
-    /// 4: s out of range or not a multiple of 3.
-    SOutOfRange = 4,
-    /// 5: t out of range.
-    TOutOfRange = 5,
-    /// 6: 4 × (2s + t)² not below the norm of q.
-    BoundNotBelowNorm = 6,
-    /// 7: a lent array, output or file has the wrong length.
-    WrongLength = 7,
-    /// 8: f not in its set.
-    FNotInItsSet = 8,
-    /// 9: g not in its set.
-    GNotInItsSet = 9,
-    /// 10: φ not in its set.
-    PhiNotInItsSet = 10,
-    /// 11: F2 or m not reduced modulo 2.
-    NotReducedModulo2 = 11,
-    /// 12: Fq, h, e or a convolution's operand not reduced modulo q.
-    NotReducedModuloQ = 12,
-    /// 13: f × F2 not 1 modulo 2.
-    NotInverseModulo2 = 13,
-    /// 14: f × Fq not 1 modulo q.
-    NotInverseModuloQ = 14,
-    /// 15: a spare bit is set.
-    SpareBitSet = 15,
-    /// 16: fewer than 16 bytes.
-    HeadTooShort = 16,
-    /// 17: mark is not EIZ.
-    MarkNotEiz = 17,
-    /// 18: version is not 1.
-    VersionNotOne = 18,
-    /// 19: kind is not the one wanted, or not 1 to 3.
-    KindNotWanted = 19,
-    /// 20: the two files' parameters differ. Only the line of [`open_files`](crate::open_files)
-    /// tells it.
-    ParametersDiffer = 20,
-    /// 21: modulus zero.
-    ModulusZero = 21,
-    /// 22: a part of the value below −2^40 or above 2^40.
-    ValueOutOfRange = 22,
+/// Makes the enum of the refusals, and what is told of each, from one list: name, number, and the
+/// condition in document 01's words.
+macro_rules! refusals {
+    ($($(#[$more:meta])* $name:ident = $number:literal, $condition:literal;)+) => {
+        /// A refusal of document 01. The names are those of the library.
+        #[derive(Clone, Copy, Debug, PartialEq, Eq, Hash)]
+        pub enum Refusal {
+            $(
+                #[doc = concat!($number, ": ", $condition, ".")]
+                $(#[$more])*
+                $name = $number,
+            )+
+        }
+
+        impl Refusal {
+            #[cfg(test)]
+            const ALL: &'static [Refusal] = &[$(Refusal::$name),+];
+
+            /// The refusal of a number, such as one in the line of
+            /// [`open_files`](crate::open_files); none for 0 and for a number that document 01 does
+            /// not have.
+            #[must_use]
+            pub const fn from_number(number: u32) -> Option<Refusal> {
+                match number {
+                    $($number => Some(Refusal::$name),)+
+                    _ => None,
+                }
+            }
+
+            /// The condition, in document 01's words.
+            const fn condition(self) -> &'static str {
+                match self {
+                    $(Refusal::$name => $condition,)+
+                }
+            }
+        }
+    };
+}
+
+refusals! {
+    CoefficientCountOutOfRange = 1, "N out of range";
+    ModulusPartOutOfRange = 2, "a part of q out of range";
+    ModulusPartsBothEven = 3, "both parts of q even";
+    SOutOfRange = 4, "s out of range or not a multiple of 3";
+    TOutOfRange = 5, "t out of range";
+    BoundNotBelowNorm = 6, "4 × (2s + t)² not below the norm of q";
+    WrongLength = 7, "a lent array, output or file has the wrong length";
+    FNotInItsSet = 8, "f not in its set";
+    GNotInItsSet = 9, "g not in its set";
+    PhiNotInItsSet = 10, "φ not in its set";
+    NotReducedModulo2 = 11, "F2 or m not reduced modulo 2";
+    NotReducedModuloQ = 12, "Fq, h, e or a convolution's operand not reduced modulo q";
+    NotInverseModulo2 = 13, "f × F2 not 1 modulo 2";
+    NotInverseModuloQ = 14, "f × Fq not 1 modulo q";
+    SpareBitSet = 15, "a spare bit is set";
+    HeadTooShort = 16, "fewer than 16 bytes";
+    MarkNotEiz = 17, "mark is not EIZ";
+    VersionNotOne = 18, "version is not 1";
+    KindNotWanted = 19, "kind is not the one wanted, or not 1 to 3";
+    /// Only the line of [`open_files`](crate::open_files) tells it.
+    ParametersDiffer = 20, "the two files' parameters differ";
+    ModulusZero = 21, "modulus zero";
+    ValueOutOfRange = 22, "a part of the value below −2^40 or above 2^40";
 }
 
 impl Refusal {
-    /// Document 01's number, from 1 to 22.
+    /// Document 01's number.
     #[must_use]
     pub const fn number(self) -> u32 {
         self as u32
-    }
-
-    /// The refusal of a number, such as one in the line of [`open_files`](crate::open_files); none
-    /// for 0 and from 23 on.
-    #[must_use]
-    pub const fn from_number(number: u32) -> Option<Refusal> {
-        let refusal = match number {
-            1 => Refusal::CoefficientCountOutOfRange,
-            2 => Refusal::ModulusPartOutOfRange,
-            3 => Refusal::ModulusPartsBothEven,
-            4 => Refusal::SOutOfRange,
-            5 => Refusal::TOutOfRange,
-            6 => Refusal::BoundNotBelowNorm,
-            7 => Refusal::WrongLength,
-            8 => Refusal::FNotInItsSet,
-            9 => Refusal::GNotInItsSet,
-            10 => Refusal::PhiNotInItsSet,
-            11 => Refusal::NotReducedModulo2,
-            12 => Refusal::NotReducedModuloQ,
-            13 => Refusal::NotInverseModulo2,
-            14 => Refusal::NotInverseModuloQ,
-            15 => Refusal::SpareBitSet,
-            16 => Refusal::HeadTooShort,
-            17 => Refusal::MarkNotEiz,
-            18 => Refusal::VersionNotOne,
-            19 => Refusal::KindNotWanted,
-            20 => Refusal::ParametersDiffer,
-            21 => Refusal::ModulusZero,
-            22 => Refusal::ValueOutOfRange,
-            _ => return None,
-        };
-        Some(refusal)
-    }
-
-    /// The condition, in document 01's words.
-    const fn condition(self) -> &'static str {
-        match self {
-            Refusal::CoefficientCountOutOfRange => "N out of range",
-            Refusal::ModulusPartOutOfRange => "a part of q out of range",
-            Refusal::ModulusPartsBothEven => "both parts of q even",
-            Refusal::SOutOfRange => "s out of range or not a multiple of 3",
-            Refusal::TOutOfRange => "t out of range",
-            Refusal::BoundNotBelowNorm => "4 × (2s + t)² not below the norm of q",
-            Refusal::WrongLength => "a lent array, output or file has the wrong length",
-            Refusal::FNotInItsSet => "f not in its set",
-            Refusal::GNotInItsSet => "g not in its set",
-            Refusal::PhiNotInItsSet => "φ not in its set",
-            Refusal::NotReducedModulo2 => "F2 or m not reduced modulo 2",
-            Refusal::NotReducedModuloQ => {
-                "Fq, h, e or a convolution's operand not reduced modulo q"
-            }
-            Refusal::NotInverseModulo2 => "f × F2 not 1 modulo 2",
-            Refusal::NotInverseModuloQ => "f × Fq not 1 modulo q",
-            Refusal::SpareBitSet => "a spare bit is set",
-            Refusal::HeadTooShort => "fewer than 16 bytes",
-            Refusal::MarkNotEiz => "mark is not EIZ",
-            Refusal::VersionNotOne => "version is not 1",
-            Refusal::KindNotWanted => "kind is not the one wanted, or not 1 to 3",
-            Refusal::ParametersDiffer => "the two files' parameters differ",
-            Refusal::ModulusZero => "modulus zero",
-            Refusal::ValueOutOfRange => "a part of the value below −2^40 or above 2^40",
-        }
     }
 }
 
@@ -180,12 +133,14 @@ mod tests {
     #[test]
     fn every_number_has_its_outcome() {
         assert_eq!(outcome(0), Ok(()));
-        for number in 1..=22 {
-            let refusal = Refusal::from_number(number);
-            assert_eq!(refusal.map(Refusal::number), Some(number));
-            assert_eq!(outcome(number).err(), refusal.map(Error::Refused));
+        for (&refusal, number) in Refusal::ALL.iter().zip(1..) {
+            assert_eq!(refusal.number(), number);
+            assert_eq!(Refusal::from_number(number), Some(refusal));
+            assert_eq!(outcome(number), Err(Error::Refused(refusal)));
         }
-        for number in [23, 256, u32::MAX] {
+        // no refusal has more than two digits
+        let last = Refusal::ALL.len() as u32;
+        for number in (last + 1..=300).chain([u32::MAX]) {
             assert_eq!(Refusal::from_number(number), None);
             assert_eq!(outcome(number), Err(Error::UnknownNumber(number)));
         }
@@ -199,11 +154,11 @@ mod tests {
             refused.to_string(),
             "refusal 7: a lent array, output or file has the wrong length"
         );
-        let unknown = Error::UnknownNumber(23);
-        assert_eq!(unknown.number(), 23);
+        let unknown = Error::UnknownNumber(100);
+        assert_eq!(unknown.number(), 100);
         assert_eq!(
             unknown.to_string(),
-            "the library returned 23, which is no refusal"
+            "the library returned 100, which is no refusal"
         );
     }
 }

@@ -4,6 +4,8 @@ use etru::{Kind, Parameters};
 
 use crate::definitions;
 
+const KINDS: &[Kind] = &[Kind::Public, Kind::Private, Kind::Sealed];
+
 #[test]
 fn limits_of_parameters() {
     assert_eq!((Parameters::MIN_N, Parameters::MAX_N), (3, 1024));
@@ -24,8 +26,9 @@ fn limits_of_values() {
 
 #[test]
 fn numbers_of_kinds() {
-    let kinds = [Kind::Public, Kind::Private, Kind::Sealed];
-    assert_eq!(kinds.map(|kind| kind as u32), [1, 2, 3]);
+    for (&kind, number) in KINDS.iter().zip(1..) {
+        assert_eq!(kind as u32, number);
+    }
 }
 
 #[test]
@@ -33,7 +36,7 @@ fn lengths_of_arrays_messages_and_files() {
     for n in (0..=1100).chain([65535, u32::MAX - 1, u32::MAX]) {
         assert_eq!(etru::array_numbers(n), 2 * n as usize);
         assert_eq!(etru::message_bytes(n), definitions::message_bytes(n));
-        for kind in [Kind::Public, Kind::Private, Kind::Sealed] {
+        for &kind in KINDS {
             assert_eq!(
                 etru::file_numbers(kind, n),
                 definitions::file_numbers(kind, n)

@@ -1,4 +1,4 @@
-//! Each of document 01's 22 refusals: its name, its number, and outputs left as they came.
+//! Each of document 01's refusals: its name, its number, and outputs left as they came.
 
 use std::fmt::Debug;
 
