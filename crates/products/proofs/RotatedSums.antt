@@ -17,6 +17,7 @@ use Rattle.integers.proofs.Ring.{con, _⊕_, _⊝_}
 use Rattle.eisenstein.specs.Values.{ℤ[ω], value, 𝟘, units, same, sameℤ, _+ω_, _-ω_, _*ω_}
 use Rattle.eisenstein.proofs.Solver.{ringω, parts, _≐_, _⊞_, _⊠_, conω}
 use Rattle.eisenstein.proofs.Equality.{same-yes}
+use Rattle.eisenstein.proofs.Laws.{+ω-assoc, +ω-comm, +ω-zero}
 use Rattle.polynomials.specs.Polynomials.{Polynomial, coefficient, array, sum, convolution, zerosAndUnits, nonzero, among}
 use Rattle.polynomials.proofs.Arrays.{array-length, coefficient-array}
 use Rattle.polynomials.proofs.Eisenstein.{sum-same}
@@ -143,25 +144,13 @@ module _ (op : ℤ → ℤ → ℤ) (bounded : (x y : ℤ) → natAbs (op x y) �
 
 -- ---- sums one after another
 
-add-assoc : (x y z : ℤ[ω]) → (x +ω y) +ω z ≡ x +ω (y +ω z)
-unfolding _+ω_
-add-assoc = ringω 3 (λ x y z. (x ⊞ y) ⊞ z ≐ x ⊞ (y ⊞ z)) tt
-
-pub add-none : (x : ℤ[ω]) → x ≡ x +ω 𝟘
-unfolding _+ω_
-add-none = ringω 1 (λ x. x ≐ x ⊞ conω 𝟘) tt
-
-none-and : (x : ℤ[ω]) → 𝟘 +ω x ≡ x
-unfolding _+ω_
-none-and = ringω 1 (λ x. conω 𝟘 ⊞ x ≐ x) tt
-
 pub summed-none : {n b : ℕ} {x : Polynomial} (l : List ℤ) → ((i : ℕ) → i < n → coefficient l i ≡ coefficient l i +ω x i) → Summed n x b l l
 summed-none l h = record { long = refl; sums = h; grown = λ k. omega arith }
 
 pub summed-more : {n b c : ℕ} {x y : Polynomial} {l₀ l l′ : List ℤ} (d : ℕ) (z : Polynomial) → Summed n x b l₀ l → Summed n y c l l′ → b + c ≤ d → ((i : ℕ) → x i +ω y i ≡ z i) → Summed n z d l₀ l′
 summed-more {x = x} {y = y} {l₀ = l₀} {l = l} d z h g s e = record {
   long = g .long ∙ h .long;
-  sums = λ i p. g .sums i p ∙ ap (λ (w : ℤ[ω]). w +ω y i) (h .sums i p) ∙ add-assoc (coefficient l₀ i) (x i) (y i) ∙ ap (λ (w : ℤ[ω]). coefficient l₀ i +ω w) (e i);
+  sums = λ i p. g .sums i p ∙ ap (λ (w : ℤ[ω]). w +ω y i) (h .sums i p) ∙ +ω-assoc (coefficient l₀ i) (x i) (y i) ∙ ap (λ (w : ℤ[ω]). coefficient l₀ i +ω w) (e i);
   grown = λ k. omega (arith, g .grown k, h .grown k);
 }
 
@@ -217,7 +206,7 @@ turned-summed n {y = y} l₀ h e g i p =
 
 pub summed-first : {n b : ℕ} {x : Polynomial} {l₀ l : List ℤ} → Zeros l₀ → Summed n x b l₀ l → (i : ℕ) → i < n → coefficient l i ≡ x i
 unfolding coefficient
-summed-first {x = x} z g i p = g .sums i p ∙ ap (λ (y : ℤ[ω]). y +ω x i) (ap₂ value (z (2 * i)) (z (2 * i + 1))) ∙ none-and (x i)
+summed-first {x = x} z g i p = g .sums i p ∙ ap (λ (y : ℤ[ω]). y +ω x i) (ap₂ value (z (2 * i)) (z (2 * i + 1))) ∙ +ω-comm 𝟘 (x i) ∙ +ω-zero (x i)
 
 -- ---- the sums together
 

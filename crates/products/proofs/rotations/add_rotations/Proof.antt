@@ -7,11 +7,12 @@ use mir.Syntax.{w32}
 use mir.Val.{toZ, ofZ}
 use mir.Facts.{toZ-ofZ}
 use Rattle.eisenstein.specs.Values.{ℤ[ω], value, _+ω_, _*ω_}
+use Rattle.eisenstein.proofs.Laws.{+ω-zero}
 use Rattle.eisenstein.proofs.Pairs.{pair-read}
 use Rattle.polynomials.specs.Polynomials.{Polynomial, coefficient, sum}
 use Rattle.arrays.proofs.Scans.{sum-none, sum-more}
 use Rattle.products.specs.Rotations.{rotated, sign, rotations, Summed}
-use Rattle.products.proofs.RotatedSums.{add-none, summed-none, summed-more}
+use Rattle.products.proofs.RotatedSums.{summed-none, summed-more}
 use Rattle.products.proofs.rotations.add_rotations.Statement.{statement}
 use Rattle.products.proofs.rotations.add_rotations.Tie as tie
 
@@ -34,7 +35,7 @@ add-rotations-spec =
     (tie.spec
     Inv-loop
     μ-loop
-    (λ c. (omega arith, summed-none (c .args .sums .now) (λ i p. add-none (coefficient (c .args .sums .now) i) ∙ ap (_+ω_ (coefficient (c .args .sums .now) i)) (sum-none (terms c i)))))
+    (λ c. (omega arith, summed-none (c .args .sums .now) (λ i p. sym (+ω-zero (coefficient (c .args .sums .now) i)) ∙ ap (_+ω_ (coefficient (c .args .sums .now) i)) (sum-none (terms c i)))))
     (λ c κs.
     let l = c .before .before in
     let s = l .before in
