@@ -52,46 +52,46 @@ modulus-not-zero f g n e = n (sym (pair-read f g) ∙ e)
 
 -- ---- every number of an array, from its coefficients
 
-abbrev PartsSmall : ℤ[ω] → Type 0
-PartsSmall x = (natAbs (x .a) ≤ 2 ^ 13) × (natAbs (x .b) ≤ 2 ^ 13)
+abbrev pub PartsAtMost : ℕ → ℤ[ω] → Type 0
+PartsAtMost b x = (natAbs (x .a) ≤ b) × (natAbs (x .b) ≤ b)
 
-from-parts : (N : ℕ) (l : List ℤ) → length l ≡ 2 * N → ((i : ℕ) → i < N → PartsSmall (coefficient l i)) → Small l
+pub from-parts : (b N : ℕ) (l : List ℤ) → length l ≡ 2 * N → ((i : ℕ) → i < N → PartsAtMost b (coefficient l i)) → (k : ℕ) → natAbs (getD l k (pos 0)) ≤ b
 unfolding coefficient
-from-parts N l e h k = go (decLe (2 * N) k)
+from-parts b N l e h k = go (decLe (2 * N) k)
   where
-    at : (j : ℕ) → j ≡ k → natAbs (getD l j (pos 0)) ≤ 2 ^ 13 → natAbs (getD l k (pos 0)) ≤ 2 ^ 13
-    at j f = subst (λ (m : ℕ). natAbs (getD l m (pos 0)) ≤ 2 ^ 13) f
+    at : (j : ℕ) → j ≡ k → natAbs (getD l j (pos 0)) ≤ b → natAbs (getD l k (pos 0)) ≤ b
+    at j f = subst (λ (m : ℕ). natAbs (getD l m (pos 0)) ≤ b) f
 
-    parity : Dec (k % 2 ≡ 0) → k < 2 * N → natAbs (getD l k (pos 0)) ≤ 2 ^ 13
+    parity : Dec (k % 2 ≡ 0) → k < 2 * N → natAbs (getD l k (pos 0)) ≤ b
     parity (yes z) p = at (2 * (k / 2)) (omega arith) (h (k / 2) (omega arith) .0)
     parity (no z) p = at (2 * (k / 2) + 1) (omega arith) (h (k / 2) (omega arith) .1)
 
-    go : Dec (2 * N ≤ k) → natAbs (getD l k (pos 0)) ≤ 2 ^ 13
-    go (yes p) = subst (λ (z : ℤ). natAbs z ≤ 2 ^ 13) (sym (List·getD-eq-default l (pos 0) (omega arith))) (lit≤ tt)
+    go : Dec (2 * N ≤ k) → natAbs (getD l k (pos 0)) ≤ b
+    go (yes p) = subst (λ (z : ℤ). natAbs z ≤ b) (sym (List·getD-eq-default l (pos 0) (omega arith))) (omega arith)
     go (no p) = parity (ℕ-discrete (k % 2) 0) (omega arith)
 
-within-one : (x : ℤ[ω]) → Within 1 x → PartsSmall x
+within-one : (x : ℤ[ω]) → Within 1 x → PartsAtMost (2 ^ 13) x
 within-one x w =
     (le-trans {m = 1} (square-le (omega (arith, part-a x, w .within))) (lit≤ tt), le-trans {m = 1} (square-le (omega (arith, part-b x, w .within))) (lit≤ tt))
 
 pub units-small : (N t : ℕ) (l : List ℤ) → length l ≡ 2 * N → T (unitsOnly N t (coefficient l)) → Small l
-units-small N t l e u = from-parts N l e (λ i p. within-one (coefficient l i) (units-within N t (coefficient l) u i p))
+units-small N t l e u = from-parts (2 ^ 13) N l e (λ i p. within-one (coefficient l i) (units-within N t (coefficient l) u i p))
 
 pub reduced2-small : (N : ℕ) (l : List ℤ) → length l ≡ 2 * N → T (reduced2 N (coefficient l)) → Small l
-reduced2-small N l e u = from-parts N l e (λ i p. within-one (coefficient l i) (reduced2-within N (coefficient l) u i p))
+reduced2-small N l e u = from-parts (2 ^ 13) N l e (λ i p. within-one (coefficient l i) (reduced2-within N (coefficient l) u i p))
 
 -- ---- remainders modulo q
 
-modQ-small : (q x : ℤ[ω]) → beyond 4095 q ≡ false → q ≢ 𝟘 → PartsSmall (modQ q x)
+modQ-small : (q x : ℤ[ω]) → beyond 4095 q ≡ false → q ≢ 𝟘 → PartsAtMost (2 ^ 13) (modQ q x)
 modQ-small q x b n =
     let k = within 4095 q b in
     remainder-size q x (modQ q x) n (k .0) (k .1) (modQ-is-remainder q x n)
 
 pub reducedQ-small : (N : ℕ) (q : ℤ[ω]) (l : List ℤ) → beyond 4095 q ≡ false → q ≢ 𝟘 → length l ≡ 2 * N → T (reducedQ N q (coefficient l)) → Small l
-reducedQ-small N q l b n e u = from-parts N l e (λ i p. subst PartsSmall (reducedQ-at N q (coefficient l) u i p) (modQ-small q (coefficient l i) b n))
+reducedQ-small N q l b n e u = from-parts (2 ^ 13) N l e (λ i p. subst (PartsAtMost (2 ^ 13)) (reducedQ-at N q (coefficient l) u i p) (modQ-small q (coefficient l i) b n))
 
 pub remainders-small : (N : ℕ) (q : ℤ[ω]) (x : Polynomial) → beyond 4095 q ≡ false → q ≢ 𝟘 → Small (array N (λ i. modQ q (x i)))
-remainders-small N q x b n = from-parts N (array N (λ i. modQ q (x i))) (array-length N (λ i. modQ q (x i))) (λ i p. subst PartsSmall (sym (coefficient-array N (λ i. modQ q (x i)) i p)) (modQ-small q (x i) b n))
+remainders-small N q x b n = from-parts (2 ^ 13) N (array N (λ i. modQ q (x i))) (array-length N (λ i. modQ q (x i))) (λ i p. subst (PartsAtMost (2 ^ 13)) (sym (coefficient-array N (λ i. modQ q (x i)) i p)) (modQ-small q (x i) b n))
 
 -- ---- arrays of zeros and units
 

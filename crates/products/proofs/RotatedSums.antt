@@ -3,13 +3,13 @@ use mathlib.Core.Path.{_≡_, refl, sym, _∙_, ap, ap₂, subst}
 use mathlib.Core.Bool.{Bool, true, false, not, cond, _&&_, _||_}
 use mathlib.Core.List.{List, [], _∷_}
 use mathlib.Core.Logic.{⊎-elim}
-use Prim.Native.Nat.{ℕ, zero, suc, _+_, _-_, _*_, _/_, _%_, _^_, _≤_, _<_}
+use Prim.Native.Nat.{ℕ, zero, suc, _+_, _-_, _*_, _%_, _^_, _≤_, _<_}
 use native.Mathlib.Omega.{arith}
 use native.Mathlib.Decide.{ℕ-discrete, decLe}
 use native.Mathlib.Nat.{le-trans, mod-eq-of-lt, mod-eq-sub-mod}
 use lib.Dec.{T}
 use lib.IntN.{ℤ, pos, negsuc, natAbs, _+ℤ_, _-ℤ_}
-use lib.ListN.{length, getD, set, length-set, List·getD-eq-default}
+use lib.ListN.{length, getD, set, length-set}
 use lib.Seq.{getD-set-same, getD-set-other}
 use mir.Facts.{and-yes, or-yes}
 use Rattle.integers.proofs.Absolute.{natAbs--}
@@ -23,6 +23,7 @@ use Rattle.polynomials.proofs.Arrays.{array-length, coefficient-array}
 use Rattle.polynomials.proofs.Eisenstein.{sum-same}
 use Rattle.polynomials.proofs.Members.{all-at}
 use Rattle.polynomials.proofs.Promises.{convolution-single}
+use Rattle.arrays.proofs.Sizes.{from-parts}
 use Rattle.products.specs.Rotations.{ω, rotated, sign, rotations, Below, PartsBelow, Zeros, Run, Summed}
 
 -- ---- the sign of a coefficient, and what is added by it
@@ -164,26 +165,10 @@ pub parts-below : {b : ℕ} (l : List ℤ) (i : ℕ) → Below b l → PartsBelo
 unfolding coefficient
 parts-below l i h = (h (2 * i), h (2 * i + 1))
 
--- every number, from the coefficients
-by-parts : (n b : ℕ) (l : List ℤ) → length l ≡ 2 * n → ((i : ℕ) → i < n → PartsBelow b (coefficient l i)) → Below b l
-unfolding coefficient
-by-parts n b l e h k = go (decLe (2 * n) k)
-  where
-    at : (m : ℕ) → m ≡ k → natAbs (getD l m (pos 0)) ≤ b → natAbs (getD l k (pos 0)) ≤ b
-    at m f = subst (λ (i : ℕ). natAbs (getD l i (pos 0)) ≤ b) f
-
-    parity : Dec (k % 2 ≡ 0) → k < 2 * n → natAbs (getD l k (pos 0)) ≤ b
-    parity (yes z) p = at (2 * (k / 2)) (omega arith) (h (k / 2) (omega arith) .0)
-    parity (no z) p = at (2 * (k / 2) + 1) (omega arith) (h (k / 2) (omega arith) .1)
-
-    go : Dec (2 * n ≤ k) → natAbs (getD l k (pos 0)) ≤ b
-    go (yes p) = subst (λ (z : ℤ). natAbs z ≤ b) (sym (List·getD-eq-default l (pos 0) (omega arith))) (omega arith)
-    go (no p) = parity (ℕ-discrete (k % 2) 0) (omega arith)
-
 turned-array : (n b : ℕ) (l : List ℤ) → Below b l → Below (2 * b) (array n (λ i. ω *ω coefficient l i))
 unfolding coefficient
 turned-array n b l h =
-    by-parts n (2 * b) (array n (λ i. ω *ω coefficient l i)) (array-length n (λ i. ω *ω coefficient l i))
+    from-parts (2 * b) n (array n (λ i. ω *ω coefficient l i)) (array-length n (λ i. ω *ω coefficient l i))
     (λ i p.
     subst (PartsBelow (2 * b))
     (turn-parts (coefficient l i) ∙ sym (coefficient-array n (λ i. ω *ω coefficient l i) i p))
