@@ -70,28 +70,28 @@ from-parts b N l e h k = go (decLe (2 * N) k)
     go (yes p) = subst (λ (z : ℤ). natAbs z ≤ b) (sym (List·getD-eq-default l (pos 0) (omega arith))) (omega arith)
     go (no p) = parity (ℕ-discrete (k % 2) 0) (omega arith)
 
-within-one : (x : ℤ[ω]) → Within 1 x → PartsAtMost (2 ^ 13) x
+within-one : (x : ℤ[ω]) → Within 1 x → PartsAtMost 8191 x
 within-one x w =
     (le-trans {m = 1} (square-le (omega (arith, part-a x, w .within))) (lit≤ tt), le-trans {m = 1} (square-le (omega (arith, part-b x, w .within))) (lit≤ tt))
 
 pub units-small : (N t : ℕ) (l : List ℤ) → length l ≡ 2 * N → T (unitsOnly N t (coefficient l)) → Small l
-units-small N t l e u = from-parts (2 ^ 13) N l e (λ i p. within-one (coefficient l i) (units-within N t (coefficient l) u i p))
+units-small N t l e u = from-parts 8191 N l e (λ i p. within-one (coefficient l i) (units-within N t (coefficient l) u i p))
 
 pub reduced2-small : (N : ℕ) (l : List ℤ) → length l ≡ 2 * N → T (reduced2 N (coefficient l)) → Small l
-reduced2-small N l e u = from-parts (2 ^ 13) N l e (λ i p. within-one (coefficient l i) (reduced2-within N (coefficient l) u i p))
+reduced2-small N l e u = from-parts 8191 N l e (λ i p. within-one (coefficient l i) (reduced2-within N (coefficient l) u i p))
 
 -- ---- remainders modulo q
 
-modQ-small : (q x : ℤ[ω]) → beyond 4095 q ≡ false → q ≢ 𝟘 → PartsAtMost (2 ^ 13) (modQ q x)
+modQ-small : (q x : ℤ[ω]) → beyond 4095 q ≡ false → q ≢ 𝟘 → PartsAtMost 8191 (modQ q x)
 modQ-small q x b n =
     let k = within 4095 q b in
     remainder-size q x (modQ q x) n (k .0) (k .1) (modQ-is-remainder q x n)
 
 pub reducedQ-small : (N : ℕ) (q : ℤ[ω]) (l : List ℤ) → beyond 4095 q ≡ false → q ≢ 𝟘 → length l ≡ 2 * N → T (reducedQ N q (coefficient l)) → Small l
-reducedQ-small N q l b n e u = from-parts (2 ^ 13) N l e (λ i p. subst (PartsAtMost (2 ^ 13)) (reducedQ-at N q (coefficient l) u i p) (modQ-small q (coefficient l i) b n))
+reducedQ-small N q l b n e u = from-parts 8191 N l e (λ i p. subst (PartsAtMost 8191) (reducedQ-at N q (coefficient l) u i p) (modQ-small q (coefficient l i) b n))
 
 pub remainders-small : (N : ℕ) (q : ℤ[ω]) (x : Polynomial) → beyond 4095 q ≡ false → q ≢ 𝟘 → Small (array N (λ i. modQ q (x i)))
-remainders-small N q x b n = from-parts (2 ^ 13) N (array N (λ i. modQ q (x i))) (array-length N (λ i. modQ q (x i))) (λ i p. subst (PartsAtMost (2 ^ 13)) (sym (coefficient-array N (λ i. modQ q (x i)) i p)) (modQ-small q (x i) b n))
+remainders-small N q x b n = from-parts 8191 N (array N (λ i. modQ q (x i))) (array-length N (λ i. modQ q (x i))) (λ i p. subst (PartsAtMost 8191) (sym (coefficient-array N (λ i. modQ q (x i)) i p)) (modQ-small q (x i) b n))
 
 -- ---- arrays of zeros and units
 
@@ -116,12 +116,12 @@ zeros-part n l h e = length-take-le (2 * n) l (omega (arith, ap length e))
 pub all-small : (l : List ℤ) → Small l → allSmall l ≡ true
 unfolding allSmall
 all-small l h =
-    is-true (all (length l) (λ k. not (ltb (2 ^ 13) (natAbs (getD l k (pos 0)))))) (at-all (length l) (λ k. not (ltb (2 ^ 13) (natAbs (getD l k (pos 0))))) (λ k p. subst (λ (t : Bool). T (not t)) (sym (le-ltb (2 ^ 13) (natAbs (getD l k (pos 0))) (h k))) tt))
+    is-true (all (length l) (λ k. not (ltb 8191 (natAbs (getD l k (pos 0)))))) (at-all (length l) (λ k. not (ltb 8191 (natAbs (getD l k (pos 0))))) (λ k p. subst (λ (t : Bool). T (not t)) (sym (le-ltb 8191 (natAbs (getD l k (pos 0))) (h k))) tt))
 
 pub are-small : (l : List ℤ) → T (allSmall l) → Small l
 unfolding allSmall
 are-small l h k = go (decLe (length l) k)
   where
-    go : Dec (length l ≤ k) → natAbs (getD l k (pos 0)) ≤ 2 ^ 13
-    go (yes p) = subst (λ (z : ℤ). natAbs z ≤ 2 ^ 13) (sym (List·getD-eq-default l (pos 0) p)) (lit≤ tt)
-    go (no p) = ltb-no (all-at (length l) (λ k. not (ltb (2 ^ 13) (natAbs (getD l k (pos 0))))) h k (omega arith))
+    go : Dec (length l ≤ k) → natAbs (getD l k (pos 0)) ≤ 8191
+    go (yes p) = subst (λ (z : ℤ). natAbs z ≤ 8191) (sym (List·getD-eq-default l (pos 0) p)) (lit≤ tt)
+    go (no p) = ltb-no (all-at (length l) (λ k. not (ltb 8191 (natAbs (getD l k (pos 0))))) h k (omega arith))

@@ -37,9 +37,9 @@ arrayChecks p a x = 7 if not (full (p .N) (length x)) ∷ notInSet a if not (inS
 unfoldable pub arrayCheck : ParameterSet → ArraySet → List ℤ → Outcome (Unit {0})
 arrayCheck p a x = outcome (parameterChecks p ++ arrayChecks p a x) tt
 
--- Numbers that products are formed of: at most 2^13 in size, as every remainder's parts are. The fact, and the test of it.
+-- Numbers that products are formed of: at most 8,191 in size, as every remainder's parts are; four of them have a sum of 16 bits. The fact, and the test of it.
 abbrev pub Small : List ℤ → Type 0
-Small l = (k : ℕ) → natAbs (getD l k (pos 0)) ≤ 2 ^ 13
+Small l = (k : ℕ) → natAbs (getD l k (pos 0)) ≤ 8191
 
 unfoldable pub allSmall : List ℤ → Bool
-allSmall l = all (length l) (λ k. not (ltb (2 ^ 13) (natAbs (getD l k (pos 0)))))
+allSmall l = all (length l) (λ k. not (ltb 8191 (natAbs (getD l k (pos 0)))))

@@ -78,7 +78,7 @@ pub fn reduced_modulo_2(x: &[i32], n: u32) -> bool
     sets::all_reduced_modulo_2(x, n as usize)
 }
 
-// Whether each number is at most 2^13 in size.
+// Whether each number is at most 8,191 in size.
 pub fn all_small(x: &[i32]) -> bool
     ensures { λ r. ⌜ r ≡ allSmall (now (x .entry)) ⌝ }
 {

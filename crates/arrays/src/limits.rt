@@ -5,11 +5,11 @@ ghost use lib.Dec.{ltb};
 ghost use lib.IntN.{natAbs};
 ghost use Rattle.arrays.specs.Arrays.{allSmall};
 
-// 2^13
-const LIMIT: i32 = 8192;
+// the largest size of which four numbers have a sum of 16 bits
+const LIMIT: i32 = 8191;
 
 fn is_large(z: i32) -> bool
-    ensures { λ r. ⌜ r ≡ ltb (2 ^ 13) (natAbs z) ⌝ }
+    ensures { λ r. ⌜ r ≡ ltb 8191 (natAbs z) ⌝ }
 {
     if z < -LIMIT {
         return true;

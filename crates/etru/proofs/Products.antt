@@ -10,8 +10,10 @@ use Rattle.eisenstein.specs.Reduction.{modQ}
 use Rattle.parameters.specs.Sets.{ParameterSet}
 use Rattle.parameters.proofs.AcceptedParameters.{Accepted, modulus-nonzero}
 use Rattle.polynomials.specs.Polynomials.{coefficient, array, convolution}
-use Rattle.products.specs.Products.{Forms, multipliable, usable}
-use Rattle.products.proofs.Operands.{multipliable-holds, usable-holds, was-formed}
+use Rattle.unit_products.specs.Products.{Forms, multipliable}
+use Rattle.products.specs.Products.{usable}
+use Rattle.unit_products.proofs.Operands.{multipliable-holds, was-formed}
+use Rattle.products.proofs.Operands.{usable-holds}
 use Rattle.etru.proofs.Passed.{Ready, Units}
 
 module _ (p : ParameterSet) (accepted : Accepted p) {x y : List ℤ} (out : List ℤ) (units : Units (p .N) x) (ready : Ready (p .N) y) (room : length out ≡ 2 * p .N) where

@@ -54,6 +54,6 @@ pub(crate) fn seal_into(p: Parameters, h: &[i32], phi: &[i32], message: &[u8], e
     ensures { λ _. ⌜ now (e .exit) ≡ array (p .n) (sealed (setOf p) (coefficient (now (h .entry))) (coefficient (now (phi .entry))) (packed (now (message .entry)))) ⌝ }
 {
     let n = p.n;
-    products::multiply_units(n, phi, h, e);
+    unit_products::multiply_units(n, phi, h, e);
     add_message(p, message, e);
 }

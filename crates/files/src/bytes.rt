@@ -25,7 +25,7 @@ pub(crate) fn signed_at(file: &[u8], k: usize) -> i32
 
 // The bits of a signed number.
 pub(crate) fn bits_of(z: i32) -> u32
-    requires { ⌜ natAbs z ≤ 2 ^ 13 ⌝ }
+    requires { ⌜ natAbs z ≤ 8191 ⌝ }
     ensures { λ r. ⌜ (r ≡ bits16 z) × (r < 65536) ⌝ }
 {
     if z < 0 {

@@ -1,2 +1,1 @@
-pub mod RotatedSums
 pub mod Operands

@@ -1,6 +1,6 @@
 -- What the steps of a product count on, once a call has asked it. Only contracts of those steps speak of it.
 use mathlib.Core.Path.{_≡_}
-use mathlib.Core.Bool.{true, false}
+use mathlib.Core.Bool.{false}
 use mathlib.Core.List.{List}
 use mathlib.Core.Logic.{_≢_}
 use Prim.Native.Nat.{ℕ, _*_, _≤_}
@@ -8,8 +8,6 @@ use lib.IntN.{ℤ}
 use lib.ListN.{length}
 use Rattle.eisenstein.specs.Values.{ℤ[ω], 𝟘}
 use Rattle.eisenstein.specs.Calls.{beyond}
-use Rattle.polynomials.specs.Polynomials.{coefficient, zerosAndUnits}
-use Rattle.arrays.specs.Arrays.{Small}
 
 -- a modulus in range and not zero
 pub record Modulus (q : ℤ[ω]) : Type 0 where
@@ -22,9 +20,3 @@ pub record Full (n : ℕ) (x y out : List ℤ) : Type 0 where
   pub x-long : length x ≡ 2 * n
   pub y-long : length y ≡ 2 * n
   pub out-long : length out ≡ 2 * n
-
--- operands of a product by additions
-pub record Operands (n : ℕ) (x y out : List ℤ) : Type 0 where
-  pub arrays : Full n x y out
-  pub units : zerosAndUnits n (coefficient x) ≡ true
-  pub y-small : Small y

@@ -1,3 +1,2 @@
-pub mod Rotations
 pub mod Conditions
 pub mod Products

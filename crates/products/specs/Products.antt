@@ -1,9 +1,7 @@
--- Products of arrays: convolution modulo q, and the product with an array of zeros and units. An output is known by its length, `room`.
-use mathlib.Core.Path.{_≡_}
-use mathlib.Core.Bool.{Bool, not, cond, _&&_}
+-- Convolution modulo q, and what is asked of a modulus. An output is known by its length, `room`.
+use mathlib.Core.Bool.{Bool, not, _&&_}
 use mathlib.Core.List.{List, [], _∷_, _++_}
 use Prim.Native.Nat.{ℕ}
-use lib.Dec.{leb}
 use lib.IntN.{ℤ}
 use lib.ListN.{length}
 use Rattle.refusals.specs.Outcomes.{Check, Outcome, outcome, _if_}
@@ -11,8 +9,8 @@ use Rattle.eisenstein.specs.Values.{ℤ[ω], 𝟘, same}
 use Rattle.eisenstein.specs.Reduction.{modQ}
 use Rattle.eisenstein.specs.Calls.{beyond}
 use Rattle.parameters.specs.Sets.{ParameterSet, parameterChecks}
-use Rattle.polynomials.specs.Polynomials.{coefficient, array, convolution, zerosAndUnits, reducedQ}
-use Rattle.arrays.specs.Arrays.{full, allSmall}
+use Rattle.polynomials.specs.Polynomials.{coefficient, array, convolution, reducedQ}
+use Rattle.arrays.specs.Arrays.{full}
 
 -- "Every operation below on a parameter set begins so, then 7." "Convolution modulo q: 12."
 unfoldable pub convolvingChecks : ℕ → ℤ[ω] → (x y : List ℤ) → ℕ → List Check
@@ -25,16 +23,6 @@ unfoldable pub convolving : ParameterSet → (x y : List ℤ) → ℕ → Outcom
 convolving p x y room =
     outcome (parameterChecks p ++ convolvingChecks (p .N) (p .q) x y room)
     (array (p .N) (λ i. modQ (p .q) (convolution (p .N) (coefficient x) (coefficient y) i)))
-
--- A call that answers whether it could, and has left the value in an output that held `old` if so, and `old` if not.
-abbrev pub Forms : {A : Type 0} → Bool → A → Bool → (old new : A) → Type 0
-Forms can value r old new = (r ≡ can) × (new ≡ cond can value old)
-
--- Operands that are multiplied by additions alone: N in range, three full arrays, zeros and units in x, and numbers of y at most 2^13 in size.
-unfoldable pub multipliable : ℕ → (x y : List ℤ) → ℕ → Bool
-multipliable N x y room =
-    leb N 1024
-    && (full N (length x) && (full N (length y) && (full N room && (zerosAndUnits N (coefficient x) && allSmall y))))
 
 -- A modulus that refusals 2 and 21 do not refuse.
 unfoldable pub usable : ℤ[ω] → Bool

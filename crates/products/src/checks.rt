@@ -9,7 +9,7 @@ ghost use Rattle.refusals.specs.Numbers.{answered};
 ghost use Rattle.eisenstein.specs.Values.{value, 𝟘, same};
 ghost use Rattle.parameters.specs.Sets.{setOf, parameterChecks};
 ghost use Rattle.polynomials.specs.Polynomials.{coefficient, reducedQ};
-ghost use Rattle.products.specs.Products.{convolvingChecks, multipliable, usable};
+ghost use Rattle.products.specs.Products.{convolvingChecks, usable};
 use arrays::ArraySet;
 use arrays::three_full;
 use parameters::Parameters;
@@ -57,21 +57,6 @@ pub(crate) fn convolving_refusal(p: Parameters, x: &[i32], y: &[i32], room: usiz
         Answer::Done => operand_refusal(p, x, y, room),
         Answer::Refused(refusal) => Answer::Refused(refusal),
     }
-}
-
-pub(crate) fn multipliable(n: u32, x: &[i32], y: &[i32], room: usize) -> bool
-    ensures { λ r. ⌜ r ≡ multipliable n (now (x .entry)) (now (y .entry)) room ⌝ }
-{
-    if n > Parameters::MAX_N {
-        return false;
-    }
-    if !three_full(n, x.len(), y.len(), room) {
-        return false;
-    }
-    if !arrays::zeros_and_units(x, n) {
-        return false;
-    }
-    arrays::all_small(y)
 }
 
 fn is_zero(c: i32, d: i32) -> bool

@@ -1,4 +1,4 @@
-// Products of arrays: convolution modulo q, and the product with an array of zeros and units, plain, modulo q and modulo 2.
+// Products of arrays, reduced: convolution modulo q, and the product with an array of zeros and units modulo q and modulo 2.
 // What an array stands for in the scheme is not this crate's business.
 // No function relies on its caller: each asks of its arrays what its arithmetic needs.
 ghost use mathlib.Core.Path.{_≡_};
@@ -10,15 +10,16 @@ ghost use Rattle.eisenstein.specs.Values.{value};
 ghost use Rattle.eisenstein.specs.Reduction.{modQ, mod2};
 ghost use Rattle.parameters.specs.Sets.{setOf};
 ghost use Rattle.polynomials.specs.Polynomials.{coefficient, array, convolution};
-ghost use Rattle.products.specs.Products.{convolving, Forms, multipliable, usable};
+ghost use Rattle.unit_products.specs.Products.{Forms, multipliable};
+ghost use Rattle.products.specs.Products.{convolving, usable};
 
 mod checks;
 mod direct;
 mod reductions;
-mod rotations;
 
 use parameters::Parameters;
 use refusals::Answer;
+use unit_products::multiply_units;
 
 // x × y reduced modulo q, to out.
 pub fn convolve(p: Parameters, x: &[i32], y: &[i32], out: &mut [i32]) -> Answer
@@ -36,19 +37,7 @@ pub fn convolve(p: Parameters, x: &[i32], y: &[i32], out: &mut [i32]) -> Answer
     }
 }
 
-// x × y, to out, where x is of zeros and units. Answers whether it was formed; nothing is written otherwise.
-pub fn multiply_units(n: u32, x: &[i32], y: &[i32], out: &mut [i32]) -> bool
-    ensures { λ r. ⌜ Forms (multipliable n (now (x .entry)) (now (y .entry)) (length (now (out .entry))))
-        (array n (convolution n (coefficient (now (x .entry))) (coefficient (now (y .entry))))) r (now (out .entry)) (now (out .exit)) ⌝ }
-{
-    if !checks::multipliable(n, x, y, out.len()) {
-        return false;
-    }
-    rotations::convolve_units(x, y, n as usize, out);
-    true
-}
-
-// The same modulo q = (c, d).
+// x × y modulo q = (c, d), to out, where x is of zeros and units. Answers whether it was formed; nothing is written otherwise.
 pub fn multiply_units_modulo_q(
     n: u32,
     c: i32,
@@ -60,13 +49,12 @@ pub fn multiply_units_modulo_q(
     ensures { λ r. ⌜ Forms (multipliable n (now (x .entry)) (now (y .entry)) (length (now (out .entry))) && usable (value c d))
         (array n (λ i. modQ (value c d) (convolution n (coefficient (now (x .entry))) (coefficient (now (y .entry))) i))) r (now (out .entry)) (now (out .exit)) ⌝ }
 {
-    if !checks::multipliable(n, x, y, out.len()) {
-        return false;
-    }
     if !checks::usable(c, d) {
         return false;
     }
-    rotations::convolve_units(x, y, n as usize, out);
+    if !multiply_units(n, x, y, out) {
+        return false;
+    }
     reductions::reduce_all_q(out, n as usize, c, d);
     true
 }
@@ -76,10 +64,9 @@ pub fn multiply_units_modulo_2(n: u32, x: &[i32], y: &[i32], out: &mut [i32]) ->
     ensures { λ r. ⌜ Forms (multipliable n (now (x .entry)) (now (y .entry)) (length (now (out .entry))))
         (array n (λ i. mod2 (convolution n (coefficient (now (x .entry))) (coefficient (now (y .entry))) i))) r (now (out .entry)) (now (out .exit)) ⌝ }
 {
-    if !checks::multipliable(n, x, y, out.len()) {
+    if !multiply_units(n, x, y, out) {
         return false;
     }
-    rotations::convolve_units(x, y, n as usize, out);
     reductions::reduce_all_2(out, n as usize);
     true
 }

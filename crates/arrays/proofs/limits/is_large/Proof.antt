@@ -16,5 +16,5 @@ is-large-spec =
     tie.close
     (tie.spec
     (λ c. search needs)
-    (λ c. sym (lt-ltb _ _ (outside-low (c .before .args .z) (pos 8192) (ltZ-yes tt) (lt-read (toZ-ofZ (c .before .fits .z)) refl (c .if1 .taken)))))
-    (λ c. ap (ltZ (pos 8192)) (toZ-ofZ (c .before .fits .z)) ∙ outside-high (c .before .args .z) (pos 8192) (ltZ-yes tt) (le-read (toZ-ofZ (c .before .fits .z)) refl (c .if1 .left))))
+    (λ c. sym (lt-ltb _ _ (outside-low (c .before .args .z) (pos 8191) (ltZ-yes tt) (lt-read (toZ-ofZ (c .before .fits .z)) refl (c .if1 .taken)))))
+    (λ c. ap (ltZ (pos 8191)) (toZ-ofZ (c .before .fits .z)) ∙ outside-high (c .before .args .z) (pos 8191) (ltZ-yes tt) (le-read (toZ-ofZ (c .before .fits .z)) refl (c .if1 .left))))

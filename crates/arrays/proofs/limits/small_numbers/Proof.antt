@@ -18,7 +18,7 @@ use Rattle.arrays.proofs.limits.small_numbers.Statement.{statement}
 use Rattle.arrays.proofs.limits.small_numbers.Tie as tie
 
 abbrev test : List ℤ → ℕ → Bool
-test x k = not (ltb (2 ^ 13) (natAbs (getD x k (pos 0))))
+test x k = not (ltb 8191 (natAbs (getD x k (pos 0))))
 
 abbrev Inv-loop : tie.InvT-loop
 Inv-loop x small₀ k₀ small k = (k ≤ length x) × (small ≡ all k (test x))
@@ -43,10 +43,10 @@ and-true true = refl
 and-true false = refl
 
 -- the test of number k
-large : (c : tie.After-is-large Inv-loop μ-loop) → let l = c .before .before .before in ltb (2 ^ 13) (natAbs (getD (l .before .args .x .now) (l .loop .k) (pos 0))) ≡ c .is-large .result
+large : (c : tie.After-is-large Inv-loop μ-loop) → let l = c .before .before .before in ltb 8191 (natAbs (getD (l .before .args .x .now) (l .loop .k) (pos 0))) ≡ c .is-large .result
 large c =
     let l = c .before .before .before in
-    sym (c .is-large .ensures ∙ ap (λ (z : ℤ). ltb (2 ^ 13) (natAbs z)) (toZ-ofZ {w = w32} {z = getD (l .before .args .x .now) (l .loop .k) (pos 0)} (record { sfits = c .before .z .given })))
+    sym (c .is-large .ensures ∙ ap (λ (z : ℤ). ltb 8191 (natAbs z)) (toZ-ofZ {w = w32} {z = getD (l .before .args .x .now) (l .loop .k) (pos 0)} (record { sfits = c .before .z .given })))
 
 loop-again : tie.Need-loop-again Inv-loop μ-loop
 loop-again c =

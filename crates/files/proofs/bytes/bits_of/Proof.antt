@@ -19,7 +19,7 @@ sum-fits : (n : ℕ) → n < 65536 → SFits w32 (pos n)
 sum-fits n h = sfits-within {b = 65536} (pos n) (omega arith) (lit< tt)
 
 -- a negative number and 65,536
-lifted : (z : ℤ) → natAbs z ≤ 2 ^ 13 → ltZ z (pos 0) ≡ true → (z +ℤ pos 65536 ≡ pos (bits16 z)) × (bits16 z < 65536)
+lifted : (z : ℤ) → natAbs z ≤ 8191 → ltZ z (pos 0) ≡ true → (z +ℤ pos 65536 ≡ pos (bits16 z)) × (bits16 z < 65536)
 unfolding bits16
 lifted (pos n) h e = absurd (omega (arith, ltb-true n 0 e))
 lifted (negsuc n) h e = (
@@ -28,7 +28,7 @@ lifted (negsuc n) h e = (
 )
 
 -- a number that is not negative
-plain : (z : ℤ) → natAbs z ≤ 2 ^ 13 → ltZ z (pos 0) ≡ false → (z ≡ pos (bits16 z)) × (bits16 z < 65536)
+plain : (z : ℤ) → natAbs z ≤ 8191 → ltZ z (pos 0) ≡ false → (z ≡ pos (bits16 z)) × (bits16 z < 65536)
 unfolding bits16
 plain (pos n) h e = (refl, omega arith)
 plain (negsuc n) h e = absurd (subst T e tt)

@@ -28,8 +28,8 @@ d-read s = toZ-ofZ (search needs)
 parts : (s : tie.Start) → (natAbs (s .args .p .c) ≤ 4095) × (natAbs (s .args .p .d) ≤ 4095)
 parts s = within 4095 (setOf (s .args .p) .q) (accepted-parameters (setOf (s .args .p)) (s .pre .1) .q-small)
 
-small : (y z : ℤ) → y ≡ z → natAbs z ≤ 4095 → natAbs y ≤ 2 ^ 13
-small y z e h = subst (λ (x : ℤ). natAbs x ≤ 2 ^ 13) (sym e) (le-trans h (lit≤ tt))
+small : (y z : ℤ) → y ≡ z → natAbs z ≤ 4095 → natAbs y ≤ 8191
+small y z e h = subst (λ (x : ℤ). natAbs x ≤ 8191) (sym e) (le-trans h (lit≤ tt))
 
 -- the bytes, from the bits of q's parts
 bytes : tie.Start → ℕ → ℕ → List ℕ

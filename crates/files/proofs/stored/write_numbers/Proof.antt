@@ -45,7 +45,7 @@ long c = let s = c .before .before in ap length (c .loop .inv .1) ∙ length-set
 abbrev element : tie.In-loop Inv-loop μ-loop → ℤ
 element c = getD (c .before .before .before .args .numbers .now) (c .before .loop .i) (pos 0)
 
-small : (c : tie.In-loop Inv-loop μ-loop) → natAbs (element c) ≤ 2 ^ 13
+small : (c : tie.In-loop Inv-loop μ-loop) → natAbs (element c) ≤ 8191
 small c = c .before .before .before .pre .1 (c .before .loop .i)
 
 element-read : (c : tie.In-loop Inv-loop μ-loop) → toZ w32 (ofZ w32 (element c)) ≡ element c
@@ -70,7 +70,7 @@ write-numbers-spec =
     (λ c. (omega arith, refl))
     (λ c. omega (arith, c .loop-test .taken))
     (λ c. c .loop-test .taken)
-    (λ c κs. subst (λ (z : ℤ). natAbs z ≤ 2 ^ 13) (sym (element-read (c .before))) (small (c .before)))
+    (λ c κs. subst (λ (z : ℤ). natAbs z ≤ 8191) (sym (element-read (c .before))) (small (c .before)))
     (λ c. omega (arith, c .bits-of .ensures .1))
     (λ c. omega (arith, c .before .before .loop-test .taken))
     (λ c. omega (arith, c .before .before .loop-test .taken, long (c .before .before .before)))

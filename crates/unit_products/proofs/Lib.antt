@@ -1,0 +1,4 @@
+pub mod Operands
+mod PlacesOf
+mod RotatedSums
+mod Horner

@@ -1,0 +1,29 @@
+-- The product with an array of zeros and units. An output is known by its length, `room`.
+use mathlib.Core.Path.{_≡_}
+use mathlib.Core.Bool.{Bool, true, cond, _&&_}
+use mathlib.Core.List.{List}
+use Prim.Native.Nat.{ℕ, _*_, _≤_}
+use lib.Dec.{leb}
+use lib.IntN.{ℤ}
+use lib.ListN.{length}
+use Rattle.polynomials.specs.Polynomials.{coefficient, zerosAndUnits}
+use Rattle.arrays.specs.Arrays.{full, Small, allSmall}
+
+-- A call that answers whether it could, and has left the value in an output that held `old` if so, and `old` if not.
+abbrev pub Forms : {A : Type 0} → Bool → A → Bool → (old new : A) → Type 0
+Forms can value r old new = (r ≡ can) × (new ≡ cond can value old)
+
+-- Operands that are multiplied by additions alone: N in range, three full arrays, zeros and units in x, and numbers of y at most 8,191 in size.
+unfoldable pub multipliable : ℕ → (x y : List ℤ) → ℕ → Bool
+multipliable N x y room =
+    leb N 1024
+    && (full N (length x) && (full N (length y) && (full N room && (zerosAndUnits N (coefficient x) && allSmall y))))
+
+-- The same as facts, which the steps of the product count on.
+pub record Operands (n : ℕ) (x y out : List ℤ) : Type 0 where
+  pub N-small : n ≤ 1024
+  pub x-long : length x ≡ 2 * n
+  pub y-long : length y ≡ 2 * n
+  pub out-long : length out ≡ 2 * n
+  pub units : zerosAndUnits n (coefficient x) ≡ true
+  pub y-small : Small y

@@ -1,0 +1,23 @@
+// The product of an array of zeros and units with another array, by additions alone.
+// It reduces nothing, and what an array stands for in the scheme is not this crate's business.
+// Its one call relies on no caller: it asks of its arrays what its arithmetic needs, and takes less than 11 KiB of stack at every N.
+ghost use mathlib.Core.Path.{_≡_};
+ghost use lib.ListN.{length};
+ghost use Rattle.polynomials.specs.Polynomials.{coefficient, array, convolution};
+ghost use Rattle.unit_products.specs.Products.{Forms, multipliable};
+
+mod checks;
+mod places;
+mod rotations;
+
+// x × y, to out, where x is of zeros and units. Answers whether it was formed; nothing is written otherwise.
+pub fn multiply_units(n: u32, x: &[i32], y: &[i32], out: &mut [i32]) -> bool
+    ensures { λ r. ⌜ Forms (multipliable n (now (x .entry)) (now (y .entry)) (length (now (out .entry))))
+        (array n (convolution n (coefficient (now (x .entry))) (coefficient (now (y .entry))))) r (now (out .entry)) (now (out .exit)) ⌝ }
+{
+    if !checks::multipliable(n, x, y, out.len()) {
+        return false;
+    }
+    rotations::convolve_units(x, y, n as usize, out);
+    true
+}

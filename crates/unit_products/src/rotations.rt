@@ -1,0 +1,216 @@
+// The product by rotations. The units are the powers ζ⁰ to ζ⁵ of ζ = 1 + ω: for each, from the fifth down, the sums are multiplied by ζ,
+// and y is added to them, rotated by each place at which x is this unit.
+ghost use mathlib.Core.Path.{_≡_};
+ghost use mathlib.Core.Bool.{true};
+ghost use Prim.Native.Nat.{_+_, _-_, _*_, _^_, _<_, _≤_};
+ghost use lib.IntN.{pos, natAbs};
+ghost use lib.ListN.{length, getD, set};
+ghost use Rattle.eisenstein.specs.Values.{value, _*ω_};
+ghost use Rattle.polynomials.specs.Polynomials.{coefficient, array, sum, convolution, zerosAndUnits};
+ghost use Rattle.arrays.specs.Arrays.{Small};
+ghost use Rattle.unit_products.specs.Products.{Operands};
+ghost use Rattle.unit_products.specs.Rotations.{ζ, Below, PartsBelow, Zeros, Twice, run, runs, fourAt, Fits, Added, Summed, Summands};
+use crate::places::places_of;
+use eisenstein::Pair;
+
+// Lays y out twice, once after the other, so that each rotation of it is one run of numbers.
+fn lay_out_twice(y: &[i32], twice: &mut [i16])
+    requires { ⌜ (length (now y) ≤ 2048) × (length (now twice) ≡ 2 * length (now y)) ⌝ }
+    requires { ⌜ Small (now y) ⌝ }
+    ensures { λ _. ⌜ Twice (now (y .entry)) (now (twice .exit)) ⌝ }
+{
+    let mut k = 0;
+    while k < y.len() {
+        let v = y[k] as i16;
+        twice[k] = v;
+        twice[y.len() + k] = v;
+        k += 1;
+    }
+}
+
+// The sum of four numbers of `twice`, formed in 16 bits, of which the compiled loop takes eight at once.
+fn sum_of_four(twice: &[i16], a: usize, b: usize, c: usize, d: usize) -> i32
+    requires { ⌜ (a < length (now twice)) × (b < length (now twice)) × (c < length (now twice)) × (d < length (now twice)) × (length (now twice) ≤ 4096) ⌝ }
+    requires { ⌜ Below 8191 (now twice) ⌝ }
+    ensures { λ r. ⌜ (r ≡ fourAt (now (twice .entry)) a b c d) × (natAbs r ≤ 2 ^ 15) ⌝ }
+{
+    (twice[a] + twice[b] + twice[c] + twice[d]) as i32
+}
+
+// Adds four runs of `twice`, from places a, b, c and d on, to the sums.
+fn add_four(sums: &mut [i32], twice: &[i16], a: usize, b: usize, c: usize, d: usize)
+    requires { ⌜ Fits a (now sums) (now twice) × Fits b (now sums) (now twice) × Fits c (now sums) (now twice) × Fits d (now sums) (now twice) ⌝ }
+    requires { ⌜ Below (2 ^ 30) (now sums) × Below 8191 (now twice) × (length (now twice) ≤ 4096) ⌝ }
+    ensures { λ _. ⌜ Added (λ k. fourAt (now (twice .entry)) (a + k) (b + k) (c + k) (d + k)) (now (sums .entry)) (now (sums .exit)) ⌝ }
+{
+    let mut k = 0;
+    while k < sums.len() {
+        sums[k] += sum_of_four(twice, a + k, b + k, c + k, d + k);
+        k += 1;
+    }
+}
+
+// Adds one run.
+fn add_one(sums: &mut [i32], twice: &[i16], a: usize)
+    requires { ⌜ Fits a (now sums) (now twice) × Below (2 ^ 30) (now sums) × Below 8191 (now twice) × (length (now twice) ≤ 4096) ⌝ }
+    ensures { λ _. ⌜ Added (λ k. getD (now (twice .entry)) (a + k) (pos 0)) (now (sums .entry)) (now (sums .exit)) ⌝ }
+{
+    let mut k = 0;
+    while k < sums.len() {
+        sums[k] += twice[a + k] as i32;
+        k += 1;
+    }
+}
+
+// Where the rotation by the place m of the list begins.
+fn start(n: usize, places: &[u16], m: usize) -> usize
+    requires { ⌜ (n ≤ 1024) × (m < length (now places)) × (getD (now places) m 0 < n) ⌝ }
+    ensures { λ r. ⌜ r ≡ 2 * (n - getD (now (places .entry)) m 0) ⌝ }
+{
+    2 * (n - places[m] as usize)
+}
+
+// Adds the rotations by the first places, four at a time, and gives how many.
+fn add_fours(sums: &mut [i32], twice: &[i16], n: usize, places: &[u16], count: usize) -> usize
+    requires { ⌜ Summands n (2 ^ 29) (now sums) (now twice) (now places) count ⌝ }
+    ensures { λ r. ⌜ (r ≤ count) × Summed n (λ i. sum r (λ m. run n (now (twice .entry)) (getD (now (places .entry)) m 0) i)) (r * 8191) (now (sums .entry)) (now (sums .exit)) ⌝ }
+{
+    let mut m = 0;
+    while m + 4 <= count {
+        let a = start(n, places, m);
+        let b = start(n, places, m + 1);
+        let c = start(n, places, m + 2);
+        let d = start(n, places, m + 3);
+        add_four(sums, twice, a, b, c, d);
+        m += 4;
+    }
+    m
+}
+
+// Adds the rotations by the places after them.
+fn add_rest(
+    sums: &mut [i32],
+    twice: &[i16],
+    n: usize,
+    places: &[u16],
+    from: usize,
+    count: usize,
+)
+    requires { ⌜ (from ≤ count) × Summands n (2 ^ 29 + from * 8191) (now sums) (now twice) (now places) count ⌝ }
+    ensures { λ _. ⌜ Summed n (λ i. sum (count - from) (λ m. run n (now (twice .entry)) (getD (now (places .entry)) (from + m) 0) i)) ((count - from) * 8191) (now (sums .entry)) (now (sums .exit)) ⌝ }
+{
+    let mut m = from;
+    while m < count {
+        let a = start(n, places, m);
+        add_one(sums, twice, a);
+        m += 1;
+    }
+}
+
+// Adds the rotations by the places at which x is (ua, ub).
+fn add_unit(
+    x: &[i32],
+    n: usize,
+    ua: i32,
+    ub: i32,
+    twice: &[i16],
+    places: &mut [u16],
+    sums: &mut [i32],
+)
+    requires { ⌜ (length (now x) ≡ 2 * n) × Summands n (2 ^ 29) (now sums) (now twice) (now places) 0 ⌝ }
+    ensures { λ _. ⌜ (length (now (places .exit)) ≡ length (now (places .entry))) × Summed n (runs n (now (twice .entry)) (value ua ub) (coefficient (now (x .entry)))) (2 ^ 23) (now (sums .entry)) (now (sums .exit)) ⌝ }
+{
+    let count = places_of(x, n, ua, ub, places);
+    let done = add_fours(sums, twice, n, places, count);
+    add_rest(sums, twice, n, places, done, count);
+}
+
+// Multiplies coefficient i by ζ.
+fn turn_at(x: &mut [i32], i: usize)
+    requires { ⌜ (i < 1024) × (2 * i + 1 < length (now x)) × PartsBelow (2 ^ 29) (coefficient (now x) i) ⌝ }
+    ensures { λ _. ⌜ now (x .exit) ≡ set (set (now (x .entry)) (2 * i) ((ζ *ω coefficient (now (x .entry)) i) .a)) (2 * i + 1) ((ζ *ω coefficient (now (x .entry)) i) .b) ⌝ }
+{
+    let a = x[2 * i];
+    let b = x[2 * i + 1];
+    x[2 * i] = a - b;
+    x[2 * i + 1] = a;
+}
+
+// Multiplies each coefficient by ζ.
+fn turn(x: &mut [i32], n: usize)
+    requires { ⌜ (n ≤ 1024) × (length (now x) ≡ 2 * n) ⌝ }
+    requires { ⌜ Below (2 ^ 29) (now x) ⌝ }
+    ensures { λ _. ⌜ now (x .exit) ≡ array n (λ i. ζ *ω coefficient (now (x .entry)) i) ⌝ }
+{
+    let mut i = 0;
+    while i < n {
+        turn_at(x, i);
+        i += 1;
+    }
+}
+
+// Adds what every unit brings, to sums that are zero.
+fn add_units(x: &[i32], n: usize, twice: &[i16], places: &mut [u16], sums: &mut [i32])
+    requires { ⌜ (length (now x) ≡ 2 * n) × (zerosAndUnits n (coefficient (now x)) ≡ true) × Zeros (now sums) × Summands n 0 (now sums) (now twice) (now places) 0 ⌝ }
+    ensures { λ _. ⌜ now (sums .exit) ≡ array n (λ i. sum n (λ j. coefficient (now (x .entry)) j *ω run n (now (twice .entry)) j i)) ⌝ }
+{
+    let mut k = 6;
+    while k > 0 {
+        k -= 1;
+        turn(sums, n);
+        let u = eisenstein::unit(k);
+        let a = u.a;
+        let b = u.b;
+        add_unit(x, n, a, b, twice, places, sums);
+    }
+}
+
+fn clear(out: &mut [i32])
+    ensures { λ _. ⌜ (length (now (out .exit)) ≡ length (now (out .entry))) × Zeros (now (out .exit)) ⌝ }
+{
+    let mut k = 0;
+    while k < out.len() {
+        out[k] = 0;
+        k += 1;
+    }
+}
+
+// x × y, to out, with room for y twice and for the places.
+fn multiply_with(
+    x: &[i32],
+    y: &[i32],
+    n: usize,
+    twice: &mut [i16],
+    places: &mut [u16],
+    out: &mut [i32],
+)
+    requires { ⌜ Operands n (now x) (now y) (now out) × (length (now twice) ≡ 2 * (2 * n)) × (n ≤ length (now places)) ⌝ }
+    ensures { λ _. ⌜ now (out .exit) ≡ array n (convolution n (coefficient (now (x .entry))) (coefficient (now (y .entry)))) ⌝ }
+{
+    lay_out_twice(y, twice);
+    clear(out);
+    add_units(x, n, twice, places, out);
+}
+
+// Room for the largest array twice, and for the places of all its coefficients: 10 KiB of the caller's stack.
+fn room_for_twice() -> [i16; 4096]
+    ensures { λ r. ⌜ length r ≡ 4096 ⌝ }
+{
+    [0i16; 4096]
+}
+
+fn room_for_places() -> [u16; 1024]
+    ensures { λ r. ⌜ length r ≡ 1024 ⌝ }
+{
+    [0u16; 1024]
+}
+
+// x × y, to out.
+pub(crate) fn convolve_units(x: &[i32], y: &[i32], n: usize, out: &mut [i32])
+    requires { ⌜ Operands n (now x) (now y) (now out) ⌝ }
+    ensures { λ _. ⌜ now (out .exit) ≡ array n (convolution n (coefficient (now (x .entry))) (coefficient (now (y .entry)))) ⌝ }
+{
+    let mut twice = room_for_twice();
+    let mut places = room_for_places();
+    multiply_with(x, y, n, &mut twice[..4 * n], &mut places, out);
+}
