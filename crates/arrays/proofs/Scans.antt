@@ -26,6 +26,23 @@ all-fails (suc n) i t l e = go (ℕ-discrete i n) (all-fails n i t)
     go (yes q) r = ap (λ (p : Bool). all n t && p) (ap t (sym q) ∙ e) ∙ and-false (all n t)
     go (no q) r = ap (λ (p : Bool). p && t n) (r (omega arith) e)
 
+-- a loop that makes every test, whatever those before it gave: one test more
+module _ (t : ℕ → Bool) where
+  pub every-none : true ≡ all 0 t
+  unfolding all
+  every-none = refl
+
+  pub every-passed : {b : Bool} (i : ℕ) → b ≡ all i t → t i ≡ true → b ≡ all (i + 1) t
+  unfolding all
+  every-passed i h e = h ∙ and-true (all i t) ∙ sym (ap (λ (n : ℕ). all n t) (add-one i) ∙ ap (λ (b : Bool). all i t && b) e)
+    where
+      and-true : (p : Bool) → p ≡ (p && true)
+      and-true true = refl
+      and-true false = refl
+
+  pub every-failed : (i : ℕ) → t i ≡ false → false ≡ all (i + 1) t
+  every-failed i e = sym (all-fails (i + 1) i t (omega arith) e)
+
 -- a loop over the tests below n: the first i have passed
 pub record Scanned (t : ℕ → Bool) (n i : ℕ) : Type 0 where
   pub inside : i ≤ n

@@ -26,7 +26,7 @@ use Rattle.eisenstein.proofs.Norms.{part-a, part-b}
 use Rattle.eisenstein.proofs.Pairs.{pair-read}
 use Rattle.eisenstein.proofs.Remainders.{modQ-is-remainder, remainder-size}
 use Rattle.polynomials.specs.Polynomials.{Polynomial, coefficient, array, all, count, nonzero, among, unitsOnly, reducedQ, reduced2}
-use Rattle.arrays.specs.Arrays.{Small, allSmall}
+use Rattle.arrays.specs.Arrays.{AllWithin, Small, allWithin}
 use Rattle.polynomials.proofs.Arrays.{coefficient-array, array-length}
 use Rattle.polynomials.proofs.Bounds.{Within}
 use Rattle.polynomials.proofs.Members.{at-all, all-at, units-within, reducedQ-at, reduced2-at, reduced2-within, mod2-unit}
@@ -70,9 +70,11 @@ from-parts b N l e h k = go (decLe (2 * N) k)
     go (yes p) = subst (λ (z : ℤ). natAbs z ≤ b) (sym (List·getD-eq-default l (pos 0) (omega arith))) (omega arith)
     go (no p) = parity (ℕ-discrete (k % 2) 0) (omega arith)
 
+pub within-parts : (x : ℤ[ω]) → Within 1 x → PartsAtMost 1 x
+within-parts x w = (square-le (omega (arith, part-a x, w .within)), square-le (omega (arith, part-b x, w .within)))
+
 within-one : (x : ℤ[ω]) → Within 1 x → PartsAtMost 8191 x
-within-one x w =
-    (le-trans {m = 1} (square-le (omega (arith, part-a x, w .within))) (lit≤ tt), le-trans {m = 1} (square-le (omega (arith, part-b x, w .within))) (lit≤ tt))
+within-one x w = let p = within-parts x w in (le-trans (p .0) (lit≤ tt), le-trans (p .1) (lit≤ tt))
 
 pub units-small : (N t : ℕ) (l : List ℤ) → length l ≡ 2 * N → T (unitsOnly N t (coefficient l)) → Small l
 units-small N t l e u = from-parts 8191 N l e (λ i p. within-one (coefficient l i) (units-within N t (coefficient l) u i p))
@@ -113,15 +115,15 @@ zeros-part n l h e = length-take-le (2 * n) l (omega (arith, ap length e))
 
 -- ---- the test of the numbers' size
 
-pub all-small : (l : List ℤ) → Small l → allSmall l ≡ true
-unfolding allSmall
-all-small l h =
-    is-true (all (length l) (λ k. not (ltb 8191 (natAbs (getD l k (pos 0)))))) (at-all (length l) (λ k. not (ltb 8191 (natAbs (getD l k (pos 0))))) (λ k p. subst (λ (t : Bool). T (not t)) (sym (le-ltb 8191 (natAbs (getD l k (pos 0))) (h k))) tt))
+pub all-within : (b : ℕ) (l : List ℤ) → AllWithin b l → allWithin b l ≡ true
+unfolding allWithin
+all-within b l h =
+    is-true (all (length l) (λ k. not (ltb b (natAbs (getD l k (pos 0)))))) (at-all (length l) (λ k. not (ltb b (natAbs (getD l k (pos 0))))) (λ k p. subst (λ (t : Bool). T (not t)) (sym (le-ltb b (natAbs (getD l k (pos 0))) (h k))) tt))
 
-pub are-small : (l : List ℤ) → T (allSmall l) → Small l
-unfolding allSmall
-are-small l h k = go (decLe (length l) k)
+pub are-within : (b : ℕ) (l : List ℤ) → T (allWithin b l) → AllWithin b l
+unfolding allWithin
+are-within b l h k = go (decLe (length l) k)
   where
-    go : Dec (length l ≤ k) → natAbs (getD l k (pos 0)) ≤ 8191
-    go (yes p) = subst (λ (z : ℤ). natAbs z ≤ 8191) (sym (List·getD-eq-default l (pos 0) p)) (lit≤ tt)
-    go (no p) = ltb-no (all-at (length l) (λ k. not (ltb 8191 (natAbs (getD l k (pos 0))))) h k (omega arith))
+    go : Dec (length l ≤ k) → natAbs (getD l k (pos 0)) ≤ b
+    go (yes p) = subst (λ (z : ℤ). natAbs z ≤ b) (sym (List·getD-eq-default l (pos 0) p)) (omega arith)
+    go (no p) = ltb-no (all-at (length l) (λ k. not (ltb b (natAbs (getD l k (pos 0))))) h k (omega arith))

@@ -1,13 +1,13 @@
 -- Arrays of a parameter set (document 01, 'Where each number is checked'): their length, their sets, and the size of their numbers.
-use mathlib.Core.Bool.{Bool, not}
+use mathlib.Core.Bool.{Bool, not, _&&_}
 use mathlib.Core.List.{List, [], _∷_, _++_}
-use Prim.Native.Nat.{ℕ, _*_, _^_, _≤_}
-use lib.Dec.{eqb, ltb}
+use Prim.Native.Nat.{ℕ, _*_, _≤_}
+use lib.Dec.{eqb, leb, ltb}
 use lib.IntN.{ℤ, pos, natAbs}
 use lib.ListN.{length, getD}
 use Rattle.refusals.specs.Outcomes.{Check, Outcome, outcome, _if_}
 use Rattle.parameters.specs.Sets.{ParameterSet, parameterChecks}
-use Rattle.polynomials.specs.Polynomials.{coefficient, all, unitsOnly, unitsOfSumZero, reducedQ, reduced2}
+use Rattle.polynomials.specs.Polynomials.{coefficient, all, zerosAndUnits, unitsOnly, unitsOfSumZero, reducedQ, reduced2}
 use Rattle.arrays.specs.declared.ArraySet.{ArraySet}
 use Rattle.arrays.specs.declared.ArraySet.the-variants.{F, G, Phi, ReducedModulo2, ReducedModuloQ}
 
@@ -37,9 +37,20 @@ arrayChecks p a x = 7 if not (full (p .N) (length x)) ∷ notInSet a if not (inS
 unfoldable pub arrayCheck : ParameterSet → ArraySet → List ℤ → Outcome (Unit {0})
 arrayCheck p a x = outcome (parameterChecks p ++ arrayChecks p a x) tt
 
--- Numbers that products are formed of: at most 8,191 in size, as every remainder's parts are; four of them have a sum of 16 bits. The fact, and the test of it.
-abbrev pub Small : List ℤ → Type 0
-Small l = (k : ℕ) → natAbs (getD l k (pos 0)) ≤ 8191
+-- Numbers at most b in size. The fact, and the test of it.
+abbrev pub AllWithin : ℕ → List ℤ → Type 0
+AllWithin b l = (k : ℕ) → natAbs (getD l k (pos 0)) ≤ b
 
-unfoldable pub allSmall : List ℤ → Bool
-allSmall l = all (length l) (λ k. not (ltb 8191 (natAbs (getD l k (pos 0)))))
+unfoldable pub allWithin : ℕ → List ℤ → Bool
+allWithin b l = all (length l) (λ k. not (ltb b (natAbs (getD l k (pos 0)))))
+
+-- Numbers that products are formed of: at most 8,191 in size, as every remainder's parts are; four of them have a sum of 16 bits.
+abbrev pub Small : List ℤ → Type 0
+Small = AllWithin 8191
+
+abbrev pub allSmall : List ℤ → Bool
+allSmall = allWithin 8191
+
+-- An array of N coefficients, N in range, that are zeros and units alone.
+unfoldable pub unitsArray : ℕ → List ℤ → Bool
+unitsArray N x = leb N 1024 && (full N (length x) && zerosAndUnits N (coefficient x))

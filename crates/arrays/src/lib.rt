@@ -9,8 +9,8 @@ ghost use lib.ListN.{getD, replicate};
 ghost use Rattle.refusals.specs.Numbers.{answered};
 ghost use Rattle.eisenstein.specs.Values.{value, same};
 ghost use Rattle.parameters.specs.Sets.{setOf};
-ghost use Rattle.polynomials.specs.Polynomials.{coefficient, zerosAndUnits, reduced2};
-ghost use Rattle.arrays.specs.Arrays.{full, arrayCheck, allSmall};
+ghost use Rattle.polynomials.specs.Polynomials.{coefficient, reduced2};
+ghost use Rattle.arrays.specs.Arrays.{full, arrayCheck, allSmall, unitsArray};
 
 mod limits;
 mod sets;
@@ -64,10 +64,16 @@ pub fn three_full(n: u32, x: usize, y: usize, z: usize) -> bool
     false
 }
 
-// Whether the first N coefficients are zeros and units alone.
+// Whether x is an array of N coefficients, N in range, that are zeros and units alone.
 pub fn zeros_and_units(x: &[i32], n: u32) -> bool
-    ensures { λ r. ⌜ r ≡ zerosAndUnits n (coefficient (now (x .entry))) ⌝ }
+    ensures { λ r. ⌜ r ≡ unitsArray n (now (x .entry)) ⌝ }
 {
+    if n > Parameters::MAX_N {
+        return false;
+    }
+    if x.len() != 2 * (n as usize) {
+        return false;
+    }
     sets::all_zero_or_unit(x, n as usize)
 }
 
@@ -82,7 +88,7 @@ pub fn reduced_modulo_2(x: &[i32], n: u32) -> bool
 pub fn all_small(x: &[i32]) -> bool
     ensures { λ r. ⌜ r ≡ allSmall (now (x .entry)) ⌝ }
 {
-    limits::small_numbers(x)
+    limits::numbers_within(x, 8191)
 }
 
 // Whether one array of a parameter set is in a set.

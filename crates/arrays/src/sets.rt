@@ -1,19 +1,21 @@
 // The tests of arrays, coefficient by coefficient, and the refusal of an array that is not in its set.
 ghost use mathlib.Core.Path.{_≡_};
-ghost use mathlib.Core.Bool.{false, not, _||_};
+ghost use mathlib.Core.Bool.{false};
 ghost use mathlib.Core.Logic.{_≢_};
 ghost use Prim.Native.Nat.{_+_, _*_, _^_, _<_, _≤_};
 ghost use lib.ListN.{length};
 ghost use Rattle.refusals.specs.Outcomes.{refused, outcome, Passes};
 ghost use Rattle.refusals.specs.Numbers.{answered};
-ghost use Rattle.eisenstein.specs.Values.{value, 𝟘, units, same};
+ghost use Rattle.eisenstein.specs.Values.{value, 𝟘, same};
 ghost use Rattle.eisenstein.specs.Reduction.{modQ, mod2};
 ghost use Rattle.eisenstein.specs.Calls.{beyond};
 ghost use Rattle.parameters.specs.Sets.{setOf, parameterChecks};
-ghost use Rattle.polynomials.specs.Polynomials.{coefficient, sum, count, nonzero, among, zerosAndUnits, unitsOnly, unitsOfSumZero, reducedQ, reduced2};
+ghost use Rattle.polynomials.specs.Polynomials.{coefficient, sum, count, nonzero, zerosAndUnits, unitsOnly, unitsOfSumZero, reducedQ, reduced2};
 ghost use Rattle.arrays.specs.Arrays.{inSet, notInSet, arrayChecks};
 use crate::ArraySet;
 use crate::at;
+use crate::limits::numbers_within;
+use crate::limits::parts_together;
 use parameters::Parameters;
 use refusals::Answer;
 use refusals::Refusal;
@@ -27,27 +29,6 @@ fn equal(a: i64, b: i64, c: i64, d: i64) -> bool
     false
 }
 
-fn is_unit(a: i64, b: i64) -> bool
-    ensures { λ r. ⌜ r ≡ among units (value a b) ⌝ }
-{
-    if equal(a, b, 1, 0) {
-        return true;
-    }
-    if equal(a, b, 1, 1) {
-        return true;
-    }
-    if equal(a, b, 0, 1) {
-        return true;
-    }
-    if equal(a, b, -1, 0) {
-        return true;
-    }
-    if equal(a, b, -1, -1) {
-        return true;
-    }
-    equal(a, b, 0, -1)
-}
-
 // Whether coefficient i is (a, b).
 pub(crate) fn equal_at(x: &[i32], i: usize, a: i64, b: i64) -> bool
     requires { ⌜ i < 2 ^ 32 ⌝ }
@@ -59,22 +40,13 @@ pub(crate) fn equal_at(x: &[i32], i: usize, a: i64, b: i64) -> bool
 }
 
 fn nonzero_at(x: &[i32], i: usize) -> bool
-    requires { ⌜ i < 2 ^ 32 ⌝ }
+    requires { ⌜ (i < 1024) × (2 * i + 1 < length (now x)) ⌝ }
     ensures { λ r. ⌜ r ≡ nonzero (coefficient (now (x .entry)) i) ⌝ }
 {
-    !equal_at(x, i, 0, 0)
-}
-
-fn zero_or_unit_at(x: &[i32], i: usize) -> bool
-    requires { ⌜ i < 2 ^ 32 ⌝ }
-    ensures { λ r. ⌜ r ≡ (not (nonzero (coefficient (now (x .entry)) i)) || among units (coefficient (now (x .entry)) i)) ⌝ }
-{
-    let a = at(x, 2 * i);
-    let b = at(x, 2 * i + 1);
-    if equal(a, b, 0, 0) {
-        return true;
+    if x[2 * i] == 0 {
+        return x[2 * i + 1] != 0;
     }
-    is_unit(a, b)
+    true
 }
 
 fn own_remainder_q_at(x: &[i32], i: usize, c: i32, d: i32) -> bool
@@ -99,7 +71,7 @@ fn own_remainder_2_at(x: &[i32], i: usize) -> bool
 }
 
 fn count_nonzero(x: &[i32], n: usize) -> usize
-    requires { ⌜ n < 2 ^ 32 ⌝ }
+    requires { ⌜ (n ≤ 1024) × (length (now x) ≡ 2 * n) ⌝ }
     ensures { λ r. ⌜ r ≡ count n (λ i. nonzero (coefficient (now (x .entry)) i)) ⌝ }
 {
     let mut k: usize = 0;
@@ -113,22 +85,19 @@ fn count_nonzero(x: &[i32], n: usize) -> usize
     k
 }
 
+// A unit's parts are at most 1 in size, and differ by at most 1; so are 0's, and no others.
 pub(crate) fn all_zero_or_unit(x: &[i32], n: usize) -> bool
-    requires { ⌜ n < 2 ^ 32 ⌝ }
+    requires { ⌜ (n ≤ 1024) × (length (now x) ≡ 2 * n) ⌝ }
     ensures { λ r. ⌜ r ≡ zerosAndUnits n (coefficient (now (x .entry))) ⌝ }
 {
-    let mut i = 0;
-    while i < n {
-        if !zero_or_unit_at(x, i) {
-            return false;
-        }
-        i += 1;
+    if numbers_within(x, 1) {
+        return parts_together(x, n);
     }
-    true
+    false
 }
 
 fn units_only(x: &[i32], n: usize, t: usize) -> bool
-    requires { ⌜ n < 2 ^ 32 ⌝ }
+    requires { ⌜ (n ≤ 1024) × (length (now x) ≡ 2 * n) ⌝ }
     ensures { λ r. ⌜ r ≡ unitsOnly n t (coefficient (now (x .entry))) ⌝ }
 {
     if count_nonzero(x, n) == t {
@@ -153,7 +122,7 @@ fn sum_is_zero(x: &[i32], n: usize) -> bool
 }
 
 fn units_of_sum_zero(x: &[i32], n: usize, s: usize) -> bool
-    requires { ⌜ n < 2 ^ 32 ⌝ }
+    requires { ⌜ (n ≤ 1024) × (length (now x) ≡ 2 * n) ⌝ }
     ensures { λ r. ⌜ r ≡ unitsOfSumZero n s (coefficient (now (x .entry))) ⌝ }
 {
     if units_only(x, n, s) {

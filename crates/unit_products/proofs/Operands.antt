@@ -1,50 +1,42 @@
 -- The test of a product's operands, from the facts and back, and what a product that was formed gives.
-use mathlib.Core.Path.{_≡_, refl, sym, _∙_, ap, ap₂, subst}
+use mathlib.Core.Path.{_≡_, sym, _∙_, ap, ap₂, subst}
 use mathlib.Core.Bool.{Bool, true, false, cond, _&&_}
 use mathlib.Core.List.{List}
 use Prim.Native.Nat.{ℕ, _*_, _≤_}
 use borrow.Author.Tests.{le-leb, eq-eqb}
-use lib.Dec.{T, leb, leb→le}
+use lib.Dec.{T, leb, leb→le, eqb→eq}
 use lib.IntN.{ℤ}
 use lib.ListN.{length}
 use mir.Facts.{and-yes}
-use Rattle.integers.proofs.Tests.{are-equal-3}
 use Rattle.eisenstein.proofs.Equality.{is-true}
 use Rattle.polynomials.specs.Polynomials.{coefficient, zerosAndUnits}
-use Rattle.arrays.specs.Arrays.{full, Small, allSmall}
-use Rattle.arrays.proofs.Sizes.{all-small, are-small}
+use Rattle.arrays.specs.Arrays.{full, unitsArray, Small, allSmall}
+use Rattle.arrays.proofs.Sizes.{all-within, are-within}
 use Rattle.unit_products.specs.Products.{Forms, multipliable, Operands}
 
 -- ---- the operands
 
 module _ (N : ℕ) (x y : List ℤ) where
-  -- the three lengths as one test
-  pub lengths-together : (room : ℕ) → multipliable N x y room ≡ (leb N 1024 && ((full N (length x) && (full N (length y) && full N room)) && (zerosAndUnits N (coefficient x) && allSmall y)))
-  unfolding multipliable
-  lengths-together room = ap (λ (t : Bool). leb N 1024 && t) (regroup (full N (length x)) (full N (length y)) (full N room) _)
-    where
-      regroup : (a b c d : Bool) → (a && (b && (c && d))) ≡ ((a && (b && c)) && d)
-      regroup true true c d = refl
-      regroup true false c d = refl
-      regroup false b c d = refl
-
   pub multipliable-holds : (room : ℕ) → N ≤ 1024 → length x ≡ 2 * N → length y ≡ 2 * N → room ≡ 2 * N → zerosAndUnits N (coefficient x) ≡ true → Small y → multipliable N x y room ≡ true
-  unfolding multipliable
-  multipliable-holds room n e f g u s = ap₂ _&&_ (le-leb N 1024 n) (ap₂ _&&_ (eq-eqb _ _ e) (ap₂ _&&_ (eq-eqb _ _ f) (ap₂ _&&_ (eq-eqb _ _ g) (ap₂ _&&_ u (all-small y s)))))
+  unfolding multipliable unitsArray
+  multipliable-holds room n e f g u s =
+      ap₂ _&&_ (ap₂ _&&_ (le-leb N 1024 n) (ap₂ _&&_ (eq-eqb _ _ e) u)) (ap₂ _&&_ (eq-eqb _ _ f) (ap₂ _&&_ (eq-eqb _ _ g) (all-within 8191 y s)))
 
   pub operands-of : (out : List ℤ) → multipliable N x y (length out) ≡ true → Operands N x y out
+  unfolding multipliable unitsArray
   operands-of out h =
-      let a = and-yes (leb N 1024) _ (subst T (sym h ∙ lengths-together (length out)) tt) in
-      let b = and-yes (full N (length x) && (full N (length y) && full N (length out))) _ (a .1) in
-      let c = and-yes (zerosAndUnits N (coefficient x)) (allSmall y) (b .1) in
-      let l = are-equal-3 _ _ _ _ _ _ (b .0) in
+      let a = and-yes (unitsArray N x) (full N (length y) && (full N (length out) && allSmall y)) (subst T (sym h) tt) in
+      let b = and-yes (leb N 1024) (full N (length x) && zerosAndUnits N (coefficient x)) (a .0) in
+      let c = and-yes (full N (length x)) (zerosAndUnits N (coefficient x)) (b .1) in
+      let d = and-yes (full N (length y)) (full N (length out) && allSmall y) (a .1) in
+      let e = and-yes (full N (length out)) (allSmall y) (d .1) in
       record {
-        N-small = leb→le N 1024 (a .0);
-        x-long = l .0;
-        y-long = l .1;
-        out-long = l .2;
-        units = is-true (zerosAndUnits N (coefficient x)) (c .0);
-        y-small = are-small y (c .1);
+        N-small = leb→le N 1024 (b .0);
+        x-long = eqb→eq (length x) (2 * N) (c .0);
+        y-long = eqb→eq (length y) (2 * N) (d .0);
+        out-long = eqb→eq (length out) (2 * N) (e .0);
+        units = is-true (zerosAndUnits N (coefficient x)) (c .1);
+        y-small = are-within 8191 y (e .1);
       }
 
 -- ---- what was formed

@@ -3,11 +3,10 @@ use mathlib.Core.Path.{_≡_}
 use mathlib.Core.Bool.{Bool, true, cond, _&&_}
 use mathlib.Core.List.{List}
 use Prim.Native.Nat.{ℕ, _*_, _≤_}
-use lib.Dec.{leb}
 use lib.IntN.{ℤ}
 use lib.ListN.{length}
 use Rattle.polynomials.specs.Polynomials.{coefficient, zerosAndUnits}
-use Rattle.arrays.specs.Arrays.{full, Small, allSmall}
+use Rattle.arrays.specs.Arrays.{full, unitsArray, Small, allSmall}
 
 -- A call that answers whether it could, and has left the value in an output that held `old` if so, and `old` if not.
 abbrev pub Forms : {A : Type 0} → Bool → A → Bool → (old new : A) → Type 0
@@ -15,9 +14,7 @@ Forms can value r old new = (r ≡ can) × (new ≡ cond can value old)
 
 -- Operands that are multiplied by additions alone: N in range, three full arrays, zeros and units in x, and numbers of y at most 8,191 in size.
 unfoldable pub multipliable : ℕ → (x y : List ℤ) → ℕ → Bool
-multipliable N x y room =
-    leb N 1024
-    && (full N (length x) && (full N (length y) && (full N room && (zerosAndUnits N (coefficient x) && allSmall y))))
+multipliable N x y room = unitsArray N x && (full N (length y) && (full N room && allSmall y))
 
 -- The same as facts, which the steps of the product count on.
 pub record Operands (n : ℕ) (x y out : List ℤ) : Type 0 where

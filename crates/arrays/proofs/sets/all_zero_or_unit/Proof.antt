@@ -1,35 +1,21 @@
--- `all_zero_or_unit` meets its contract. The loop's invariant: every test so far has passed.
-use mathlib.Core.Path.{sym, _∙_}
-use mathlib.Core.Bool.{not, _||_}
-use Prim.Native.Nat.{_-_}
-use native.Mathlib.Omega.{arith}
-use borrow.Author.Tests.{not-true, not-false}
-use Rattle.eisenstein.specs.Values.{units}
-use Rattle.polynomials.specs.Polynomials.{coefficient, nonzero, among}
-use Rattle.arrays.proofs.Scans.{Scanned, scan-none, scan-more, scan-fails, scan-all}
+-- `all_zero_or_unit` meets its contract.
+use mathlib.Core.Path.{_≡_, sym, _∙_, subst}
+use lib.Dec.{T, lit≤}
+use lib.Signed.{ltZ-yes}
+use Rattle.arrays.specs.Arrays.{AllWithin}
+use Rattle.arrays.proofs.Sizes.{are-within}
+use Rattle.arrays.proofs.UnitTests.{all-together, not-within}
 use Rattle.arrays.proofs.sets.all_zero_or_unit.Statement.{statement}
 use Rattle.arrays.proofs.sets.all_zero_or_unit.Tie as tie
 
-abbrev Inv-loop : tie.InvT-loop
-Inv-loop x n i₀ i = Scanned (λ k. not (nonzero (coefficient x k)) || among units (coefficient x k)) n i
-
-abbrev μ-loop : tie.MeasureT-loop
-μ-loop x n i₀ i = n - i
+within : (c : tie.Then1) → AllWithin 1 (c .before .before .args .x .now)
+within c = are-within 1 (c .before .before .args .x .now) (subst T (sym (sym (c .before .numbers-within .ensures) ∙ c .if1 .taken)) tt)
 
 pub all-zero-or-unit-spec : {M : Type 1} → statement M
 all-zero-or-unit-spec =
     tie.close
     (tie.spec
-    Inv-loop
-    μ-loop
-    (λ c. scan-none)
-    (λ c κs. omega arith)
-    (λ c.
-    let l = c .before .before .before in
-    scan-fails (l .loop .inv) (c .before .before .loop-test .taken) (sym (c .before .zero-or-unit-at .ensures) ∙ not-true _ (c .if1 .taken)))
-    (λ c. omega arith)
-    (λ c. omega arith)
-    (λ c. scan-more (c .before .before .before .loop .inv) (c .before .before .loop-test .taken) (sym (c .before .zero-or-unit-at .ensures) ∙ not-false _ (c .if1 .left)))
-    (λ c.
-    let l = c .before in
-    scan-all (l .loop .inv) (omega (arith, c .loop-test .left))))
+    (λ c κs. (ltZ-yes tt, lit≤ tt))
+    (λ c κs. let s = c .before .before in (s .pre .0, s .pre .1, within c))
+    (λ c. let s = c .before .before .before in c .parts-together .ensures ∙ all-together (s .args .n) (s .args .x .now) (within (c .before)))
+    (λ c. let s = c .before .before in not-within (s .args .n) (s .args .x .now) (s .pre .1) (sym (c .before .numbers-within .ensures) ∙ c .if1 .left)))

@@ -45,7 +45,7 @@ count-nonzero-spec =
     Inv-loop
     μ-loop
     (λ c. (omega arith, omega arith, none (test (c .args .x .now))))
-    (λ c κs. omega arith)
+    (λ c κs. (omega (arith, c .loop-test .taken, c .before .before .pre), omega (arith, c .loop-test .taken, c .before .before .pre)))
     (λ c. omega arith)
     (λ c. omega arith)
     (λ c. omega arith)

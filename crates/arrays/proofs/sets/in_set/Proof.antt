@@ -1,7 +1,9 @@
 -- `in_set` meets its contract.
-use mathlib.Core.Path.{sym, _∙_, ap}
+use mathlib.Core.Path.{_≡_, sym, _∙_, ap}
 use mathlib.Core.Bool.{Bool}
+use Prim.Native.Nat.{_*_, _≤_}
 use borrow.Author.Needs.{needs}
+use lib.ListN.{length}
 use Rattle.eisenstein.specs.Values.{ℤ[ω]}
 use Rattle.eisenstein.proofs.Pairs.{pair-read}
 use Rattle.parameters.specs.Sets.{setOf}
@@ -19,6 +21,10 @@ tested s a = inSet (setOf (s .args .p)) a (s .args .x .now)
 accepted : (s : tie.Start) → Accepted (setOf (s .args .p))
 accepted s = accepted-parameters (setOf (s .args .p)) (s .pre .0)
 
+-- what a test asks of N and of the length
+array-of : (s : tie.Start) → (s .args .p .n ≤ 1024) × (length (s .args .x .now) ≡ 2 * s .args .p .n)
+array-of s = (accepted s .N-small, s .pre .1)
+
 pub in-set-spec : {M : Type 1} → statement M
 in-set-spec =
     tie.close
@@ -26,15 +32,15 @@ in-set-spec =
     (λ c. search needs)
     (λ c. search needs)
     (λ c. search needs)
-    (λ c κs. search needs)
+    (λ c κs. array-of (c .before .before .before .before))
     (λ c. search needs)
     (λ c. search needs)
     (λ c. search needs)
-    (λ c κs. search needs)
+    (λ c κs. array-of (c .before .before .before .before))
     (λ c. search needs)
     (λ c. search needs)
     (λ c. search needs)
-    (λ c κs. search needs)
+    (λ c κs. array-of (c .before .before .before .before))
     (λ c. search needs)
     (λ c. search needs)
     (λ c κs. search needs)
