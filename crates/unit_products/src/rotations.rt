@@ -192,7 +192,8 @@ fn multiply_with(
     add_units(x, n, twice, places, out);
 }
 
-// Room for the largest array twice, and for the places of all its coefficients: 10 KiB of the caller's stack.
+// Room for an array twice and for the places of all its coefficients: 10 KiB of the caller's stack at the largest N, and 1.25 KiB up to N = 128,
+// so that a small product does not spend its time clearing room for a large one.
 fn room_for_twice() -> [i16; 4096]
     ensures { λ r. ⌜ length r ≡ 4096 ⌝ }
 {
@@ -205,12 +206,44 @@ fn room_for_places() -> [u16; 1024]
     [0u16; 1024]
 }
 
-// x × y, to out.
-pub(crate) fn convolve_units(x: &[i32], y: &[i32], n: usize, out: &mut [i32])
+fn small_room_for_twice() -> [i16; 512]
+    ensures { λ r. ⌜ length r ≡ 512 ⌝ }
+{
+    [0i16; 512]
+}
+
+fn small_room_for_places() -> [u16; 128]
+    ensures { λ r. ⌜ length r ≡ 128 ⌝ }
+{
+    [0u16; 128]
+}
+
+fn convolve_few(x: &[i32], y: &[i32], n: usize, out: &mut [i32])
+    requires { ⌜ (n ≤ 128) × Operands n (now x) (now y) (now out) ⌝ }
+    ensures { λ _. ⌜ now (out .exit) ≡ array n (convolution n (coefficient (now (x .entry))) (coefficient (now (y .entry)))) ⌝ }
+{
+    let mut twice = small_room_for_twice();
+    let mut places = small_room_for_places();
+    multiply_with(x, y, n, &mut twice[..4 * n], &mut places, out);
+}
+
+fn convolve_many(x: &[i32], y: &[i32], n: usize, out: &mut [i32])
     requires { ⌜ Operands n (now x) (now y) (now out) ⌝ }
     ensures { λ _. ⌜ now (out .exit) ≡ array n (convolution n (coefficient (now (x .entry))) (coefficient (now (y .entry)))) ⌝ }
 {
     let mut twice = room_for_twice();
     let mut places = room_for_places();
     multiply_with(x, y, n, &mut twice[..4 * n], &mut places, out);
+}
+
+// x × y, to out.
+pub(crate) fn convolve_units(x: &[i32], y: &[i32], n: usize, out: &mut [i32])
+    requires { ⌜ Operands n (now x) (now y) (now out) ⌝ }
+    ensures { λ _. ⌜ now (out .exit) ≡ array n (convolution n (coefficient (now (x .entry))) (coefficient (now (y .entry)))) ⌝ }
+{
+    if n <= 128 {
+        convolve_few(x, y, n, out);
+        return;
+    }
+    convolve_many(x, y, n, out);
 }

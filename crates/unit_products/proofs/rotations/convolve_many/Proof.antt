@@ -1,0 +1,28 @@
+-- `convolve_many` meets its contract.
+use mathlib.Core.Path.{sym, _∙_}
+use Prim.Native.Nat.{_*_}
+use native.Mathlib.Omega.{arith}
+use borrow.Author.Needs.{needs}
+use lib.Seq.{length-take-le}
+use Rattle.unit_products.proofs.rotations.convolve_many.Statement.{statement}
+use Rattle.unit_products.proofs.rotations.convolve_many.Tie as tie
+
+pub convolve-many-spec : {M : Type 1} → statement M
+convolve-many-spec =
+    tie.close
+    (tie.spec
+    (λ c κs. tt)
+    (λ c κs. tt)
+    (λ c. omega (arith, c .before .before .pre .N-small))
+    (λ c. omega (arith, c .before .before .pre .N-small, c .before .room-for-twice .ensures))
+    (λ c.
+    let s = c .before .before .before in
+    let t = c .before .before .room-for-twice in
+    sym (length-take-le (4 * s .args .n) (t .result) (omega (arith, s .pre .N-small, t .ensures))))
+    (λ c. sym (c .before .before .room-for-places .ensures))
+    (λ c κs.
+    let s = c .before .before .before .before .before in
+    let t = c .before .before .before .before .room-for-twice in
+    (s .pre, length-take-le (4 * s .args .n) (t .result) (omega (arith, s .pre .N-small, t .ensures)) ∙ omega arith, omega (arith, s .pre .N-small, c .before .before .before .room-for-places .ensures)))
+    (λ c. search needs)
+    (λ c. search needs))
