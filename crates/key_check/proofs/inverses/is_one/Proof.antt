@@ -6,7 +6,7 @@ use Prim.Native.Nat.{ℕ, _-_}
 use native.Mathlib.Omega.{arith}
 use borrow.Author.Tests.{not-true, not-false}
 use lib.IntN.{ℤ, pos}
-use Rattle.eisenstein.specs.Values.{ℤ[ω], value, same}
+use Rattle.eisenstein.specs.Values.{value, same}
 use Rattle.polynomials.specs.Polynomials.{coefficient, one}
 use Rattle.arrays.proofs.Scans.{Scanned, scan-none, scan-more, scan-fails, scan-all}
 use Rattle.arrays.proofs.Sizes.{read-64}

@@ -1,12 +1,12 @@
 -- `write_public_key` meets its contract: the product commutes, and g comes first, since its coefficients are zeros and units.
-use mathlib.Core.Path.{_≡_, _∙_, ap}
+use mathlib.Core.Path.{_∙_, ap}
 use borrow.Author.Needs.{needs}
 use lib.ListN.{length}
 use Rattle.eisenstein.specs.Reduction.{modQ}
 use Rattle.eisenstein.proofs.Pairs.{pair-read}
 use Rattle.parameters.specs.Sets.{ParameterSet, setOf}
 use Rattle.polynomials.specs.Polynomials.{coefficient}
-use Rattle.polynomials.proofs.Arrays.{array-same, array-length}
+use Rattle.polynomials.proofs.Arrays.{array-same}
 use Rattle.polynomials.proofs.Promises.{convolution-commutes}
 use Rattle.etru.specs.Scheme.{publicKey}
 use Rattle.etru.proofs.Passed.{Checking, key-passed}

@@ -7,11 +7,11 @@ use borrow.Author.Needs.{needs}
 use lib.Dec.{eqb}
 use lib.ListN.{length}
 use Rattle.integers.proofs.Tests.{are-equal-4}
-use Rattle.refusals.specs.Outcomes.{Check, _if_, done, outcome, Passes}
+use Rattle.refusals.specs.Outcomes.{Check, _if_, outcome, Passes}
 use Rattle.refusals.specs.Numbers.{answered}
 use Rattle.refusals.proofs.Checks.{refused-by, passed, none-left, holds, call-passed, call-refused, passed-all, refused-first}
 use Rattle.parameters.specs.Sets.{ParameterSet, setOf, parameterChecks}
-use Rattle.arrays.specs.Arrays.{full, arrayCheck}
+use Rattle.arrays.specs.Arrays.{full}
 use Rattle.arrays.specs.declared.ArraySet.the-variants.{Phi, ReducedModuloQ}
 use Rattle.arrays.proofs.ArrayChecks.{own, own-passed, own-refused}
 use Rattle.packing.specs.Messages.{messageBytes, spareBitSet}
