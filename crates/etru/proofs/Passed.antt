@@ -2,7 +2,6 @@
 use mathlib.Core.Path.{_≡_}
 use mathlib.Core.Bool.{_&&_}
 use mathlib.Core.List.{List, _++_}
-use mathlib.Core.Logic.{_≢_}
 use Prim.Native.Nat.{ℕ, _*_}
 use lib.Dec.{T, eqb}
 use lib.IntN.{ℤ}
@@ -10,7 +9,6 @@ use lib.ListN.{length}
 use Rattle.integers.proofs.Tests.{are-equal-4, are-equal-5}
 use Rattle.refusals.specs.Outcomes.{Passes}
 use Rattle.refusals.proofs.Checks.{done-holds, done-all}
-use Rattle.eisenstein.specs.Values.{𝟘}
 use Rattle.parameters.specs.Sets.{ParameterSet, parameterChecks}
 use Rattle.parameters.proofs.AcceptedParameters.{Accepted, accepted-parameters, modulus-nonzero}
 use Rattle.polynomials.specs.Polynomials.{coefficient, unitsOnly, unitsOfSumZero, reducedQ, reduced2}

@@ -92,7 +92,7 @@ pub extern "C" fn etru_check_key(
     ensures { λ r. ⌜ Gives (keyCheck (set n c d s t) (now (f .entry)) (now (f2 .entry)) (now (fq .entry)) (now (g .entry)) (length (now (h .entry)))) r (now (h .entry)) (now (h .exit)) ⌝ }
 {
     let p = Parameters { n, c, d, s, t };
-    etru::check_key(p, f, f2, fq, g, h).number()
+    key_check::check_key(p, f, f2, fq, g, h).number()
 }
 
 // Seals a message, to e.
@@ -111,7 +111,7 @@ pub extern "C" fn etru_seal(
     ensures { λ r. ⌜ Gives (sealing (set n c d s t) (now (h .entry)) (now (phi .entry)) (now (message .entry)) (length (now (e .entry)))) r (now (e .entry)) (now (e .exit)) ⌝ }
 {
     let p = Parameters { n, c, d, s, t };
-    etru::seal(p, h, phi, message, e).number()
+    sealing::seal(p, h, phi, message, e).number()
 }
 
 // Opens a sealed array. The message goes to message.
@@ -130,7 +130,7 @@ pub extern "C" fn etru_open(
     ensures { λ r. ⌜ Gives (opening (set n c d s t) (now (f .entry)) (now (f2 .entry)) (now (e .entry)) (length (now (message .entry)))) r (now (message .entry)) (now (message .exit)) ⌝ }
 {
     let p = Parameters { n, c, d, s, t };
-    etru::open(p, f, f2, e, message).number()
+    unsealing::open(p, f, f2, e, message).number()
 }
 
 // The polynomial that a message stands for, to m.

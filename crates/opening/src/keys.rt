@@ -24,7 +24,7 @@ fn key_refusal_in(p: Parameters, numbers: &[i32], h: &mut [i32]) -> Answer
     let f2 = &numbers[f_end..f2_end];
     let fq = &numbers[f2_end..fq_end];
     let g = &numbers[fq_end..g_end];
-    etru::check_key(p, f, f2, fq, g, h)
+    key_check::check_key(p, f, f2, fq, g, h)
 }
 
 // What is checked is all that is wanted: the public key is formed beside it, in 8 KiB of stack.

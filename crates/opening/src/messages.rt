@@ -20,7 +20,7 @@ fn open_message(p: Parameters, f: &[i32], f2: &[i32], e: &[i32], message: &mut [
 {
     let n = p.n;
     let k = packing::message_bytes(n);
-    match etru::open(p, f, f2, e, &mut message[..k]) {
+    match unsealing::open(p, f, f2, e, &mut message[..k]) {
         Answer::Done => Opened::Message(k),
         Answer::Refused(refusal) => Opened::Refused(refusal),
     }

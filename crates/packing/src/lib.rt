@@ -2,10 +2,13 @@
 // It seals and opens nothing.
 // Each call that answers ends with `Done`, or with document 01's first refusal that applies, and then its output is as it came.
 ghost use mathlib.Core.Path.{_≡_};
+ghost use mathlib.Core.Bool.{_&&_};
+ghost use lib.Dec.{eqb};
 ghost use lib.ListN.{length};
 ghost use Rattle.refusals.specs.Outcomes.{number, Gives};
 ghost use Rattle.refusals.specs.Numbers.{answered};
 ghost use Rattle.eisenstein.specs.Values.{value};
+ghost use Rattle.arrays.specs.Arrays.{full};
 ghost use Rattle.packing.specs.Messages.{messageBytes, bitOf, packed, spareBitSet};
 ghost use Rattle.packing.specs.Calls.{packing, unpacking};
 
@@ -20,6 +23,16 @@ pub fn message_bytes(n: u32) -> usize
     ensures { λ r. ⌜ r ≡ messageBytes n ⌝ }
 {
     (n as usize + 3) / 4
+}
+
+// Whether a message's length is right, and those of three arrays are 2N.
+pub fn full_with_message(n: u32, message: usize, x: usize, y: usize, z: usize) -> bool
+    ensures { λ r. ⌜ r ≡ (eqb message (messageBytes n) && (full n x && (full n y && full n z))) ⌝ }
+{
+    if message == message_bytes(n) {
+        return arrays::three_full(n, x, y, z);
+    }
+    false
 }
 
 // Bit k of the message, highest bit of a byte first; 0 past its end.

@@ -1,5 +1,5 @@
 // Demand 3 of the calls: the library's own key check, sealing and opening, one after another on lent arrays.
-// It uses only the public contracts of `etru`, and adds nothing to the library.
+// It uses only the public contracts of the three calls, and adds nothing to the library.
 // Any key that is accepted, any ephemeral of its set and any message come back as exactly that message, with no refusal,
 // and two messages that are sealed to equal arrays are equal.
 ghost use mathlib.Core.Path.{_≡_};
@@ -27,8 +27,8 @@ fn seal_and_open(
     ensures { λ r. ⌜ Gives (next (sealing (setOf p) (now (h .entry)) (now (phi .entry)) (now (message .entry)) (length (now (e .entry))))
         (λ x. opening (setOf p) (now (f .entry)) (now (f2 .entry)) x (length (now (opened .entry))))) (number (answered r)) (now (opened .entry)) (now (opened .exit)) ⌝ }
 {
-    match etru::seal(p, h, phi, message, e) {
-        Answer::Done => etru::open(p, f, f2, e, opened),
+    match sealing::seal(p, h, phi, message, e) {
+        Answer::Done => unsealing::open(p, f, f2, e, opened),
         Answer::Refused(refusal) => Answer::Refused(refusal),
     }
 }
@@ -54,7 +54,7 @@ pub fn check_seal_open(
     ensures { λ r. ⌜ (Lent (setOf p) (now (f .entry)) (now (f2 .entry)) (now (fq .entry)) (now (g .entry)) (now (phi .entry)) (now (message .entry)) (now (h .entry)) (now (e .entry))
         → length (now (opened .entry)) ≡ messageBytes (p .n) → (number (answered r) ≡ 0) × (now (opened .exit) ≡ now (message .entry))) ⌝ }
 {
-    match etru::check_key(p, f, f2, fq, g, h) {
+    match key_check::check_key(p, f, f2, fq, g, h) {
         Answer::Done => seal_and_open(p, f, f2, h, phi, message, e, opened),
         Answer::Refused(refusal) => Answer::Refused(refusal),
     }
@@ -74,8 +74,8 @@ fn seal_twice(
     ensures { λ r. ⌜ Gives (sealingTwice (setOf p) (now (h .entry)) (now (phi1 .entry)) (now (phi2 .entry)) (now (message1 .entry)) (now (message2 .entry))
         (length (now (e1 .entry))) (length (now (e2 .entry)))) (number (answered r)) (now (e2 .entry)) (now (e2 .exit)) ⌝ }
 {
-    match etru::seal(p, h, phi1, message1, e1) {
-        Answer::Done => etru::seal(p, h, phi2, message2, e2),
+    match sealing::seal(p, h, phi1, message1, e1) {
+        Answer::Done => sealing::seal(p, h, phi2, message2, e2),
         Answer::Refused(refusal) => Answer::Refused(refusal),
     }
 }
@@ -105,7 +105,7 @@ pub fn check_seal_twice(
         → Lent (setOf p) (now (f .entry)) (now (f2 .entry)) (now (fq .entry)) (now (g .entry)) (now (phi2 .entry)) (now (message2 .entry)) (now (h .entry)) (now (e2 .entry))
         → (number (answered r) ≡ 0) × (now (e1 .exit) ≡ now (e2 .exit) → now (message1 .entry) ≡ now (message2 .entry))) ⌝ }
 {
-    match etru::check_key(p, f, f2, fq, g, h) {
+    match key_check::check_key(p, f, f2, fq, g, h) {
         Answer::Done => seal_twice(p, h, phi1, message1, phi2, message2, e1, e2),
         Answer::Refused(refusal) => Answer::Refused(refusal),
     }
