@@ -34,6 +34,13 @@ pub fn zeros() -> [i32; 2048]
     [0i32; 2048]
 }
 
+// The same for N up to 128: 1 KiB, which is cleared sooner.
+pub fn few_zeros() -> [i32; 256]
+    ensures { λ r. ⌜ r ≡ replicate 256 (pos 0) ⌝ }
+{
+    [0i32; 256]
+}
+
 // One number of an array, 0 past its end.
 pub fn at(x: &[i32], k: usize) -> i64
     ensures { λ r. ⌜ (r ≡ getD (now (x .entry)) k (pos 0)) × (natAbs r ≤ 2 ^ 31) ⌝ }

@@ -1,7 +1,7 @@
 // The size of an array's numbers. Each loop looks at every number, whatever those before it were, so that the compiled loop takes several at once.
 ghost use mathlib.Core.Path.{_≡_};
 ghost use mathlib.Core.Bool.{not};
-ghost use Prim.Native.Nat.{_+_, _*_, _<_, _≤_};
+ghost use Prim.Native.Nat.{_+_, _*_, _^_, _<_, _≤_};
 ghost use lib.Dec.{ltb};
 ghost use lib.IntN.{pos, natAbs, _-ℤ_};
 ghost use lib.ListN.{length};
@@ -10,7 +10,7 @@ ghost use Rattle.polynomials.specs.Polynomials.{coefficient, all};
 ghost use Rattle.arrays.specs.Arrays.{AllWithin, allWithin};
 
 fn is_beyond(z: i32, limit: i32) -> bool
-    requires { ⌜ (pos 0 <ℤ limit) × (natAbs limit ≤ 8191) ⌝ }
+    requires { ⌜ (pos 0 <ℤ limit) × (natAbs limit ≤ 2 ^ 15) ⌝ }
     ensures { λ r. ⌜ r ≡ ltb (natAbs limit) (natAbs z) ⌝ }
 {
     if z < -limit {
@@ -21,7 +21,7 @@ fn is_beyond(z: i32, limit: i32) -> bool
 
 // Whether each number is at most `limit` in size.
 pub(crate) fn numbers_within(x: &[i32], limit: i32) -> bool
-    requires { ⌜ (pos 0 <ℤ limit) × (natAbs limit ≤ 8191) ⌝ }
+    requires { ⌜ (pos 0 <ℤ limit) × (natAbs limit ≤ 2 ^ 15) ⌝ }
     ensures { λ r. ⌜ r ≡ allWithin (natAbs limit) (now (x .entry)) ⌝ }
 {
     let mut within = true;

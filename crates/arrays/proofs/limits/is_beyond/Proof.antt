@@ -1,6 +1,7 @@
 -- `is_beyond` meets its contract.
 use mathlib.Core.Path.{sym, _∙_, ap₂}
 use mathlib.Core.List.{List, [], _∷_}
+use Prim.Native.Nat.{_^_}
 use borrow.Author.Tests.{lt-ltb}
 use lib.IntN.{pos}
 use lib.Signed.{ltZ}
@@ -13,7 +14,7 @@ use Rattle.arrays.proofs.limits.is_beyond.Statement.{statement}
 use Rattle.arrays.proofs.limits.is_beyond.Tie as tie
 
 abbrev ρ : tie.Start → List Leaf
-ρ s = given (s .args .limit) 8191 (s .pre .1) ∷ []
+ρ s = given (s .args .limit) (2 ^ 15) (s .pre .1) ∷ []
 
 pub is-beyond-spec : {M : Type 1} → statement M
 is-beyond-spec =

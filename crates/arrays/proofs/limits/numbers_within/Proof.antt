@@ -3,7 +3,7 @@ use mathlib.Core.Path.{_≡_, sym, _∙_, ap, ap₂, subst}
 use mathlib.Core.Bool.{Bool, not}
 use mathlib.Core.List.{List}
 use mathlib.Core.Logic.{⊎-elim}
-use Prim.Native.Nat.{ℕ, _-_, _≤_}
+use Prim.Native.Nat.{ℕ, _-_, _^_, _≤_}
 use native.Mathlib.Omega.{arith}
 use borrow.Author.Needs.{needs}
 use lib.Dec.{ltb}
@@ -61,7 +61,7 @@ numbers-within-spec =
     (λ c. (omega arith, every-none (test (b c) (c .args .x .now))))
     (λ c. search needs)
     (λ c. search needs)
-    (λ c κs. let s = c .before .before .before in subst (λ (z : ℤ). (pos 0 <ℤ z) × (natAbs z ≤ 8191)) (sym (toZ-ofZ (s .fits .limit))) (s .pre))
+    (λ c κs. let s = c .before .before .before in subst (λ (z : ℤ). (pos 0 <ℤ z) × (natAbs z ≤ 2 ^ 15)) (sym (toZ-ofZ (s .fits .limit))) (s .pre))
     (λ c. search needs)
     (λ c. search needs)
     loop-again
