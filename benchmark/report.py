@@ -48,15 +48,16 @@ def table(head, rows):
 
 
 def sealing_and_opening(times, sizes):
-    head = ["N", "call", "ours µs", "plain C µs", "times as fast", "same algorithm in C µs", "ours / same"]
+    head = ["N", "call", "ours µs", "plain C µs", "times as fast"]
+    head += ["single rotations in C µs", "ours / it", "same algorithm in C µs", "ours / same"]
     head += ["libntru 2/3 µs", "ours / it", "libntru 4/9 µs", "ours / it"]
     rows = []
     for n in sizes:
         libntru = [times.get(("product", who), {}).get(n) for who in LIBNTRU]
         for call in ("sealing", "opening"):
-            ours, plain, same = (times[call, who][n] for who in ("ours", "plain", "same"))
+            ours, plain, single, same = (times[call, who][n] for who in ("ours", "plain", "single", "same"))
             row = [f"{n:,}", call, microseconds(ours), microseconds(plain), ratio(plain, ours)]
-            row += [microseconds(same), ratio(ours, same)]
+            row += [microseconds(single), ratio(ours, single), microseconds(same), ratio(ours, same)]
             for time in libntru:
                 row += [microseconds(time), ratio(ours, time)]
             rows.append(row)
@@ -104,8 +105,8 @@ CURVES = [
     (("sealing", "plain"), "plain C, sealing", "#d55e00", "none"),
     (("opening", "ours"), "ours, opening", "#0072b2", "7 4"),
     (("sealing", "ours"), "ours, sealing", "#0072b2", "none"),
-    (("opening", "same"), "same algorithm in C, opening", "#999999", "7 4"),
-    (("sealing", "same"), "same algorithm in C, sealing", "#999999", "none"),
+    (("opening", "single"), "single rotations in C, opening", "#999999", "7 4"),
+    (("sealing", "single"), "single rotations in C, sealing", "#999999", "none"),
     (("product", "libntru 2/3"), "libntru, one product at 2N", "#007a59", "2 3"),
 ]
 

@@ -7,6 +7,61 @@
 
 #define MAX_NUMBERS ETRU_ARRAY_NUMBERS(ETRU_MAX_N)
 
+// ---- The library's product: four rotations at a time, in 16 bits
+
+static const int32_t units[6][2] = {{1, 0}, {1, 1}, {0, 1}, {-1, 0}, {-1, -1}, {0, -1}};
+
+// The places at which x is the unit (a, b), and their count.
+static size_t places_of(size_t n, const int32_t *x, int32_t a, int32_t b, uint16_t *places) {
+    size_t count = 0;
+    for (size_t j = 0; j < n; j++) {
+        places[count] = (uint16_t)j;
+        count += x[2 * j] == a && x[2 * j + 1] == b;
+    }
+    return count;
+}
+
+static void add_four(size_t count, const int16_t *restrict a, const int16_t *restrict b, const int16_t *restrict c,
+                     const int16_t *restrict d, int32_t *restrict sums) {
+    for (size_t k = 0; k < count; k++) {
+        sums[k] += (int16_t)(a[k] + b[k] + c[k] + d[k]);
+    }
+}
+
+static void add_one(size_t count, const int16_t *restrict a, int32_t *restrict sums) {
+    for (size_t k = 0; k < count; k++) {
+        sums[k] += a[k];
+    }
+}
+
+// Horner's rule over the units: unit k is (1 + ω)^k. In `twice` y stands two times in a row.
+void multiply_by_four_rotations(size_t n, const int32_t *x, const int32_t *y, int32_t *out) {
+    int16_t twice[2 * MAX_NUMBERS];
+    uint16_t places[ETRU_MAX_N];
+    for (size_t k = 0; k < 2 * n; k++) {
+        twice[k] = twice[2 * n + k] = (int16_t)y[k];
+    }
+    memset(out, 0, 2 * n * sizeof out[0]);
+    for (int k = 5; k >= 0; k--) {
+        for (size_t i = 0; i < n; i++) {
+            int32_t a = out[2 * i], b = out[2 * i + 1];
+            out[2 * i] = a - b;
+            out[2 * i + 1] = a;
+        }
+        size_t count = places_of(n, x, units[k][0], units[k][1], places), m = 0;
+        for (; m + 4 <= count; m += 4) {
+            const int16_t *end = twice + 2 * n;
+            add_four(2 * n, end - 2 * places[m], end - 2 * places[m + 1], end - 2 * places[m + 2],
+                     end - 2 * places[m + 3], out);
+        }
+        for (; m < count; m++) {
+            add_one(2 * n, twice + 2 * (n - places[m]), out);
+        }
+    }
+}
+
+// ---- One rotation at a time, in 32 bits
+
 static void add(size_t count, const int32_t *restrict part, int32_t *restrict sums) {
     for (size_t k = 0; k < count; k++) {
         sums[k] += part[k];
@@ -33,8 +88,7 @@ static void sum_rotations(size_t n, const int32_t *x, const int32_t *twice, int3
     }
 }
 
-// x × y, where each coefficient of x is zero or a unit.
-static void convolve_units(size_t n, const int32_t *x, const int32_t *y, int32_t *out) {
+void multiply_by_single_rotations(size_t n, const int32_t *x, const int32_t *y, int32_t *out) {
     int32_t twice[2 * MAX_NUMBERS], ones[MAX_NUMBERS], omegas[MAX_NUMBERS], squares[MAX_NUMBERS];
     memcpy(twice, y, 2 * n * sizeof y[0]);
     memcpy(twice + 2 * n, y, 2 * n * sizeof y[0]);
@@ -49,8 +103,10 @@ static void convolve_units(size_t n, const int32_t *x, const int32_t *y, int32_t
     }
 }
 
-uint32_t rotations_seal(const struct parameters *p, const int32_t *h, const int32_t *phi, const uint8_t *message,
-                        int32_t *e) {
+// ---- Sealing and opening
+
+uint32_t rotations_seal(unit_product *multiply, const struct parameters *p, const int32_t *h, const int32_t *phi,
+                        const uint8_t *message, int32_t *e) {
     if (!reduced_modulo_q(p->n, modulus(p), h)) {
         return ETRU_NOT_REDUCED_MODULO_Q;
     }
@@ -60,7 +116,7 @@ uint32_t rotations_seal(const struct parameters *p, const int32_t *h, const int3
     if (spare_bit_set(p->n, message)) {
         return ETRU_SPARE_BIT_SET;
     }
-    convolve_units(p->n, phi, h, e);
+    multiply(p->n, phi, h, e);
     for (size_t i = 0; i < p->n; i++) {
         struct value sum = coefficient(e, i), m = message_coefficient(message, i);
         set_coefficient(e, i, remainder_modulo_q((struct value){2 * sum.a + m.a, 2 * sum.b + m.b}, modulus(p)));
@@ -68,8 +124,8 @@ uint32_t rotations_seal(const struct parameters *p, const int32_t *h, const int3
     return ETRU_OK;
 }
 
-uint32_t rotations_open(const struct parameters *p, const int32_t *f, const int32_t *f2, const int32_t *e,
-                        uint8_t *message) {
+uint32_t rotations_open(unit_product *multiply, const struct parameters *p, const int32_t *f, const int32_t *f2,
+                        const int32_t *e, uint8_t *message) {
     if (!units_only(p->n, f, p->t)) {
         return ETRU_F_NOT_IN_ITS_SET;
     }
@@ -80,11 +136,11 @@ uint32_t rotations_open(const struct parameters *p, const int32_t *f, const int3
         return ETRU_NOT_REDUCED_MODULO_Q;
     }
     int32_t unsealed[MAX_NUMBERS], opened[MAX_NUMBERS];
-    convolve_units(p->n, f, e, unsealed);
+    multiply(p->n, f, e, unsealed);
     for (size_t i = 0; i < p->n; i++) {
         set_coefficient(unsealed, i, remainder_modulo_q(coefficient(unsealed, i), modulus(p)));
     }
-    convolve_units(p->n, f2, unsealed, opened);
+    multiply(p->n, f2, unsealed, opened);
     memset(message, 0, ETRU_MESSAGE_BYTES(p->n));
     for (size_t i = 0; i < p->n; i++) {
         add_message_coefficient(message, i, coefficient(opened, i));

@@ -81,7 +81,11 @@ static uint32_t seal_plain(union output *out) {
 }
 
 static uint32_t seal_same(union output *out) {
-    return rotations_seal(&parameters, h, phi, message, out->numbers);
+    return rotations_seal(multiply_by_four_rotations, &parameters, h, phi, message, out->numbers);
+}
+
+static uint32_t seal_single(union output *out) {
+    return rotations_seal(multiply_by_single_rotations, &parameters, h, phi, message, out->numbers);
 }
 
 static uint32_t open_ours(union output *out) {
@@ -94,7 +98,11 @@ static uint32_t open_plain(union output *out) {
 }
 
 static uint32_t open_same(union output *out) {
-    return rotations_open(&parameters, f, f2, e, out->message);
+    return rotations_open(multiply_by_four_rotations, &parameters, f, f2, e, out->message);
+}
+
+static uint32_t open_single(union output *out) {
+    return rotations_open(multiply_by_single_rotations, &parameters, f, f2, e, out->message);
 }
 
 static uint32_t convolve_ours(union output *out) {
@@ -113,7 +121,7 @@ static uint32_t convolve_same(union output *out) {
 
 // ---- Measuring
 
-enum { MAX_CONTENDERS = 3 };
+enum { MAX_CONTENDERS = 4 };
 
 struct contender {
     const char *name;
@@ -152,8 +160,10 @@ static void measure(const char *call, const struct contender *contenders, size_t
 }
 
 static void measure_calls(uint32_t n) {
-    static const struct contender sealing[] = {{"ours", seal_ours}, {"plain", seal_plain}, {"same", seal_same}};
-    static const struct contender opening[] = {{"ours", open_ours}, {"plain", open_plain}, {"same", open_same}};
+    static const struct contender sealing[] = {
+        {"ours", seal_ours}, {"plain", seal_plain}, {"same", seal_same}, {"single", seal_single}};
+    static const struct contender opening[] = {
+        {"ours", open_ours}, {"plain", open_plain}, {"same", open_same}, {"single", open_single}};
     static const struct contender convolving[] = {{"ours", convolve_ours}, {"same", convolve_same}};
 
     // s and t are about 2N/3, s a multiple of 3; for this q the bound holds up to N = 1,024.
@@ -171,8 +181,8 @@ static void measure_calls(uint32_t n) {
     draw_reduced_modulo_q(e);
 
     size_t array_bytes = ETRU_ARRAY_NUMBERS(n) * sizeof(int32_t);
-    measure("sealing", sealing, 3, array_bytes);
-    measure("opening", opening, 3, ETRU_MESSAGE_BYTES(n));
+    measure("sealing", sealing, 4, array_bytes);
+    measure("opening", opening, 4, ETRU_MESSAGE_BYTES(n));
     measure("convolution", convolving, 2, array_bytes);
 }
 

@@ -1,3 +1,4 @@
 pub mod Messages
 pub mod Calls
 pub mod Promises
+pub mod Steps

@@ -4,6 +4,7 @@ ghost use Prim.Native.Nat.{_*_, _<_, _≤_};
 ghost use lib.ListN.{length};
 ghost use Rattle.polynomials.specs.Polynomials.{coefficient, array};
 ghost use Rattle.packing.specs.Messages.{messageBytes, packed, messageBit, byte, unpacked};
+ghost use Rattle.packing.specs.Steps.{fourBits};
 use crate::pair_of;
 
 pub(crate) fn pack_into(n: usize, message: &[u8], m: &mut [i32])
@@ -34,20 +35,26 @@ fn message_bit(n: usize, m: &[i32], k: usize) -> u32
     0
 }
 
+// Four bits of it, from bit k on, as a number.
+fn four_bits(n: usize, m: &[i32], k: usize) -> u32
+    requires { ⌜ (n ≤ 1024) × (length (now m) ≡ 2 * n) × (k < 8192) ⌝ }
+    ensures { λ r. ⌜ (r ≡ fourBits (messageBit n (coefficient (now (m .entry)))) k) × (r < 16) ⌝ }
+{
+    let b0 = message_bit(n, m, k);
+    let b1 = message_bit(n, m, k + 1);
+    let b2 = message_bit(n, m, k + 2);
+    let b3 = message_bit(n, m, k + 3);
+    8 * b0 + 4 * b1 + 2 * b2 + b3
+}
+
 // Byte j of that message.
 fn byte_of(n: usize, m: &[i32], j: usize) -> u8
     requires { ⌜ (n ≤ 1024) × (length (now m) ≡ 2 * n) × (j < 1024) ⌝ }
     ensures { λ r. ⌜ r ≡ byte (messageBit n (coefficient (now (m .entry)))) j ⌝ }
 {
-    let b0 = message_bit(n, m, 8 * j);
-    let b1 = message_bit(n, m, 8 * j + 1);
-    let b2 = message_bit(n, m, 8 * j + 2);
-    let b3 = message_bit(n, m, 8 * j + 3);
-    let b4 = message_bit(n, m, 8 * j + 4);
-    let b5 = message_bit(n, m, 8 * j + 5);
-    let b6 = message_bit(n, m, 8 * j + 6);
-    let b7 = message_bit(n, m, 8 * j + 7);
-    (128 * b0 + 64 * b1 + 32 * b2 + 16 * b3 + 8 * b4 + 4 * b5 + 2 * b6 + b7) as u8
+    let high = four_bits(n, m, 8 * j);
+    let low = four_bits(n, m, 8 * j + 4);
+    (16 * high + low) as u8
 }
 
 pub(crate) fn unpack_into(n: usize, m: &[i32], message: &mut [u8])

@@ -1,12 +1,19 @@
--- `byte_of` meets its contract.
+-- `byte_of` meets its contract: a byte is four bits, and four more.
+use mathlib.Core.Path.{_≡_, _∙_, ap, ap₂}
+use Prim.Native.Nat.{ℕ, _+_, _*_}
 use native.Mathlib.Omega.{arith}
 use borrow.Author.Needs.{needs}
-use Rattle.packing.specs.Messages.{byte}
+use Rattle.polynomials.specs.Polynomials.{coefficient}
+use Rattle.packing.specs.Messages.{messageBit, byte}
+use Rattle.packing.specs.Steps.{fourBits}
 use Rattle.packing.proofs.messages.byte_of.Statement.{statement}
 use Rattle.packing.proofs.messages.byte_of.Tie as tie
 
-pub byte-of-spec : {M : Type 1} → statement M
+halves : (b : ℕ → ℕ) (j : ℕ) → 16 * fourBits b (8 * j) + fourBits b (8 * j + 4) ≡ byte b j
 unfolding byte
+halves b j = omega (arith, ap b {x = 8 * j + 4 + 1} {y = 8 * j + 5} (omega arith), ap b {x = 8 * j + 4 + 2} {y = 8 * j + 6} (omega arith), ap b {x = 8 * j + 4 + 3} {y = 8 * j + 7} (omega arith))
+
+pub byte-of-spec : {M : Type 1} → statement M
 byte-of-spec =
     tie.close
     (tie.spec
@@ -17,35 +24,7 @@ byte-of-spec =
     (λ c κs. search needs)
     (λ c. search needs)
     (λ c. search needs)
-    (λ c κs. search needs)
     (λ c. search needs)
-    (λ c. search needs)
-    (λ c κs. search needs)
-    (λ c. search needs)
-    (λ c. search needs)
-    (λ c κs. search needs)
-    (λ c. search needs)
-    (λ c. search needs)
-    (λ c κs. search needs)
-    (λ c. search needs)
-    (λ c. search needs)
-    (λ c κs. search needs)
-    (λ c. search needs)
-    (λ c. search needs)
-    (λ c κs. search needs)
-    (λ c. search needs)
-    (λ c. search needs)
-    (λ c. search needs)
-    (λ c. search needs)
-    (λ c. search needs)
-    (λ c. search needs)
-    (λ c. search needs)
-    (λ c. search needs)
-    (λ c. search needs)
-    (λ c. search needs)
-    (λ c. search needs)
-    (λ c. search needs)
-    (λ c. search needs)
-    (λ c. search needs)
-    (λ c. search needs)
-    (λ c. omega (arith, c .message-bit8 .ensures, c .before .message-bit7 .ensures, c .before .before .message-bit6 .ensures, c .before .before .before .message-bit5 .ensures, c .before .before .before .before .message-bit4 .ensures, c .before .before .before .before .before .message-bit3 .ensures, c .before .before .before .before .before .before .message-bit2 .ensures, c .before .before .before .before .before .before .before .message-bit .ensures)))
+    (λ c.
+    let s = c .before .before in
+    ap₂ (λ (h l : ℕ). 16 * h + l) (c .before .four-bits .ensures .0) (c .four-bits2 .ensures .0) ∙ halves (messageBit (s .args .n) (coefficient (s .args .m .now))) (s .args .j)))
