@@ -6,14 +6,15 @@ ghost use Rattle.refusals.specs.Outcomes.{outcome, Passes};
 ghost use Rattle.refusals.specs.Numbers.{answered};
 ghost use Rattle.parameters.specs.Sets.{setOf, parameterChecks};
 ghost use Rattle.arrays.specs.Arrays.{arrayCheck};
-ghost use Rattle.files.specs.Files.{arraysOf, fileNumbers, numbersFrom};
+ghost use Rattle.heads.specs.Kinds.{arraysOf};
+ghost use Rattle.files.specs.Files.{fileNumbers, numbersFrom};
 ghost use Rattle.files.specs.Calls.{setChecks, rightLengths};
 use crate::file_bytes;
 use crate::file_numbers;
-use crate::kinds::array_count;
-use crate::kinds::array_set;
 use crate::stored::read_numbers;
 use arrays::ArraySet;
+use heads::kinds::array_count;
+use heads::kinds::array_set;
 use parameters::Parameters;
 use refusals::Answer;
 

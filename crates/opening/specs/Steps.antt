@@ -10,7 +10,9 @@ use Rattle.refusals.specs.Numbers.{numberOf}
 use Rattle.parameters.specs.Sets.{ParameterSet, parameterChecks}
 use Rattle.packing.specs.Messages.{messageBytes}
 use Rattle.etru.specs.Calls.{opening}
-use Rattle.files.specs.Files.{arraysOf, fileNumbers, headOf, numbersOf, arrayAt}
+use Rattle.heads.specs.Kinds.{arraysOf}
+use Rattle.heads.specs.Heads.{headOf}
+use Rattle.files.specs.Files.{fileNumbers, numbersOf, arrayAt}
 use Rattle.files.specs.Calls.{setChecks}
 use Rattle.opening.specs.Program.{fileChecks, sameSet, pairChecks, messageOf}
 use Rattle.opening.specs.declared.Opened.{Opened}

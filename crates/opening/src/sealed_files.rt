@@ -3,7 +3,7 @@ ghost use mathlib.Core.Path.{_≡_};
 ghost use Rattle.refusals.specs.Outcomes.{done, outcome};
 ghost use Rattle.refusals.specs.Numbers.{answered};
 ghost use Rattle.parameters.specs.Sets.{setOf};
-ghost use Rattle.files.specs.Calls.{readingHead};
+ghost use Rattle.heads.specs.Calls.{readingHead};
 ghost use Rattle.opening.specs.Program.{inverseChecks};
 ghost use Rattle.opening.specs.Steps.{KeyRead, keyIn, Room, openingSealed, openedIs};
 use crate::Opened;
@@ -31,7 +31,7 @@ fn open_sealed_in(
     let sealed_n = sealed.n;
     let f2_end = 4 * (n as usize);
     let end = f2_end + 2 * (sealed_n as usize);
-    match files::read(files::kinds::SEALED, file, &mut numbers[f2_end..end]) {
+    match files::read(heads::kinds::SEALED, file, &mut numbers[f2_end..end]) {
         Answer::Done => open_pair(p, key, sealed, numbers, message),
         Answer::Refused(refusal) => Opened::Refused(refusal),
     }
@@ -48,9 +48,9 @@ pub(crate) fn open_sealed(
     ensures { λ r. ⌜ openedIs r (now (message .exit)) ≡ openingSealed (setOf p) (keyIn (setOf p) (now (numbers .entry))) (now (file .entry)) ⌝ }
 {
     let n = p.n;
-    let k = files::file_numbers(files::kinds::PRIVATE, n);
+    let k = files::file_numbers(heads::kinds::PRIVATE, n);
     let key = key_refusal(p, &numbers[..k]);
-    match files::read_head(files::kinds::SEALED, file) {
+    match heads::read_head(heads::kinds::SEALED, file) {
         Made::Accepted(sealed) => open_sealed_in(p, key, sealed, file, numbers, message),
         Made::Refused(refusal) => Opened::Refused(refusal),
     }

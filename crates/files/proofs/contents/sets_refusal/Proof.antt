@@ -12,7 +12,8 @@ use Rattle.parameters.specs.Sets.{setOf}
 use Rattle.arrays.specs.declared.ArraySet.the-variants.{ReducedModuloQ}
 use Rattle.arrays.specs.Arrays.{arrayCheck}
 use Rattle.parameters.proofs.AcceptedParameters.{accepted-parameters}
-use Rattle.files.specs.Files.{arraysOf, arrayAt}
+use Rattle.heads.specs.Kinds.{arraysOf}
+use Rattle.files.specs.Files.{arrayAt}
 use Rattle.files.specs.Calls.{setChecks}
 use Rattle.files.proofs.Bounds.{numbers-few, end-of-array}
 use Rattle.arrays.proofs.ArrayChecks.{own, own-check}

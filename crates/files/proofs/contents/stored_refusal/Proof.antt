@@ -11,7 +11,8 @@ use Rattle.refusals.specs.Numbers.{answered}
 use Rattle.parameters.specs.Sets.{setOf}
 use Rattle.arrays.specs.declared.ArraySet.the-variants.{ReducedModuloQ}
 use Rattle.arrays.specs.Arrays.{arrayCheck}
-use Rattle.files.specs.Files.{arraysOf, arrayAt, numbersFrom}
+use Rattle.heads.specs.Kinds.{arraysOf}
+use Rattle.files.specs.Files.{arrayAt, numbersFrom}
 use Rattle.files.specs.Calls.{setChecks}
 use Rattle.files.proofs.Bounds.{end-of-array}
 use Rattle.files.proofs.Lists.{numbers-length, array-numbers}

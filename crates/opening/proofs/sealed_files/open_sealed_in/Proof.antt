@@ -15,9 +15,10 @@ use Rattle.refusals.proofs.Checks.{passed-all, refused-first, done-holds}
 use Rattle.parameters.specs.Sets.{ParameterSet, setOf}
 use Rattle.parameters.proofs.AcceptedParameters.{accepted-parameters}
 use Rattle.polynomials.specs.Polynomials.{coefficient, reducedQ}
-use Rattle.files.specs.Files.{arraysOf, fileNumbers, arrayAt}
+use Rattle.heads.specs.Kinds.{arraysOf}
+use Rattle.files.specs.Files.{fileNumbers, arrayAt}
 use Rattle.files.specs.Calls.{setChecks}
-use Rattle.files.proofs.ArraysOfKinds.{sealed-arrays}
+use Rattle.heads.proofs.ArraysOfKinds.{sealed-arrays}
 use Rattle.opening.specs.Program.{fileChecks, pairChecks, messageOf}
 use Rattle.opening.specs.Steps.{openingSealed, keyIn}
 use Rattle.opening.proofs.JoinedArrays.{last-check}
