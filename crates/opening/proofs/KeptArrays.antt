@@ -5,7 +5,7 @@ use Prim.Native.Nat.{ℕ, _+_, _-_, _*_, _≤_}
 use native.Mathlib.Omega.{arith}
 use lib.IntN.{ℤ}
 use lib.ListN.{length, take, drop, length-drop}
-use lib.Seq.{take-add, take-at, drop-at, take-take, length-take-le, take-append-le, drop-append-le}
+use lib.Seq.{drop-drop, take-add, take-at, drop-at, take-take, length-take-le, take-append-le, drop-append-le}
 use Rattle.parameters.specs.Sets.{ParameterSet}
 use Rattle.files.specs.Files.{fileNumbers, arrayAt}
 use Rattle.opening.specs.Steps.{keyIn}
@@ -36,3 +36,10 @@ pub sealed-kept : (p : ParameterSet) (l e rest : List ℤ) → 4 * p .N ≤ leng
 unfolding arrayAt
 sealed-kept p l e rest h m =
     ap (take (2 * p .N)) (drop-at (take (4 * p .N) l) (e ++ rest) (2 * p .N * 2) (length-take-le (4 * p .N) l h ∙ omega arith)) ∙ take-at e rest (2 * p .N) m
+
+-- array k of what follows, as an array of all
+pub array-of-rest : (p : ParameterSet) (k j : ℕ) (l : List ℤ) (n from : ℕ) → 2 * p .N * k + 2 * p .N ≤ n → from + 2 * p .N * k ≡ 2 * p .N * j → from + n ≤ length l → arrayAt p k (take n (drop from l)) ≡ arrayAt p j l
+unfolding arrayAt
+array-of-rest p k j l n from h e m =
+    part-of-front (2 * p .N) (2 * p .N * k) n (drop from l) h (omega (arith, length-drop from l))
+    ∙ ap (take (2 * p .N)) (drop-drop (2 * p .N * k) from l ∙ ap (λ (i : ℕ). drop i l) e)
