@@ -1,5 +1,5 @@
 // The line that the opening program prints, of a message and of a refusal.
-// It writes to lent bytes, prints nothing, and does not look at what a message says. Each call takes less than 1 KiB of stack.
+// It writes to lent bytes, prints nothing, and does not look at what a message says.
 ghost use mathlib.Core.Path.{_≡_};
 ghost use mathlib.Core.List.{_++_};
 ghost use Prim.Native.Nat.{_+_, _*_, _<_, _≤_};
