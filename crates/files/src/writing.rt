@@ -36,6 +36,7 @@ fn write_file(kind: u32, p: Parameters, numbers: &[i32], file: &mut [u8])
     requires { ⌜ (length (now file) ≡ headLength + 2 * length (now numbers)) × Small (now numbers) ⌝ }
     ensures { λ _. ⌜ now (file .exit) ≡ fileOf kind (setOf p) (now (numbers .entry)) ⌝ }
 {
+    // Nothing is refused: the kind, the parameters and the lengths have passed.
     let _answer: Answer = write_head(kind, p, file);
     write_numbers(numbers, &mut file[HEAD_BYTES..]);
 }
