@@ -24,7 +24,7 @@ import etru_reference as reference
 import library
 
 REFUSALS = "crates/refusals/src/lib.rt"
-KINDS = "crates/files/src/kinds.rt"
+KINDS = "crates/heads/src/kinds.rt"
 CALLS = "crates/etru_c/src/lib.rt"
 CRATES = "crates.txt"
 
@@ -157,7 +157,7 @@ def check_refusal_proofs(report, refusals):
     report.check(len(lines) == len(refusals) and len(set(lines)) == 1, miss)
 
 
-# ---- Kinds of file: the constants of `files`
+# ---- Kinds of file: the constants of `heads`
 
 
 def check_kinds(report):
@@ -166,7 +166,7 @@ def check_kinds(report):
     numbers = [f"kind {number}" for _, number in kinds]
     report.check(kinds, f"{KINDS}: no line like 'pub const PUBLIC: u32 = 1;' is left to take the kinds from")
 
-    place = "crates/files/specs/Files.antt"
+    place = "crates/heads/specs/Kinds.antt"
     definition = between(r".*\bpub arraysOf :", "$", text(place))
     found = ["kind " + (first or second) for first, second in all_of(r"\beqb kind (\d+)|^arraysOf (\d+) =", definition)]
     report.same_names(place, KINDS, numbers, found, lambda name: f"the arrays of {name} in `arraysOf`")

@@ -4,8 +4,9 @@ use Prim.Native.Nat.{ℕ, _+_, _*_, _≤_, _<_}
 use native.Mathlib.Omega.{arith}
 use native.Mathlib.Nat.{mul-le-mul, mul-le-mul-left, mul-suc}
 use lib.ListN.{length}
-use Rattle.files.specs.Files.{arraysOf, fileNumbers}
-use Rattle.files.proofs.ArraysOfKinds.{at-most-four}
+use Rattle.heads.specs.Kinds.{arraysOf}
+use Rattle.files.specs.Files.{fileNumbers}
+use Rattle.heads.proofs.ArraysOfKinds.{at-most-four}
 
 pub four-arrays : (n k b : ℕ) → n ≤ b → k ≤ 4 → 4 * n * k ≤ 4 * b * 4
 four-arrays n k b h l = mul-le-mul {n₁ = 4 * n} {n₂ = 4 * b} (omega arith) l

@@ -1,10 +1,5 @@
-pub mod ArraysOfKinds
 pub mod Bounds
-pub mod Given
-pub mod Handed
 pub mod Lists
-pub mod Numbers
 pub mod Passed
 pub mod RoundTrips
 pub mod SetChecks
-pub mod Stores

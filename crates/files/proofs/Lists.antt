@@ -19,33 +19,22 @@ use Rattle.arrays.specs.declared.ArraySet.{ArraySet}
 use Rattle.arrays.specs.declared.ArraySet.the-variants.{F, G, Phi, ReducedModulo2, ReducedModuloQ}
 use Rattle.parameters.proofs.AcceptedParameters.{Accepted, modulus-nonzero}
 use Rattle.arrays.proofs.Sizes.{units-small, reduced2-small, reducedQ-small}
-use Rattle.files.specs.Files.{bytes16, number16, bits16, signed16, unsignedAt, signedAt, numbersFrom, arrayAt, bytesOf}
+use Rattle.heads.specs.Heads.{bytes16, number16, bits16, signed16}
+use Rattle.files.specs.Files.{numbersFrom, arrayAt, bytesOf}
 use Rattle.files.specs.Calls.{setChecks}
-use Rattle.files.proofs.Numbers.{Fits16, fits-small, signed-bits, bits-signed, number-bytes, bytes-number, number-lt}
+use Rattle.heads.proofs.Numbers.{Fits16, fits-small, signed-bits, bits-signed, number-bytes, bytes-number, number-lt}
 
 -- ---- one number, by its place
 
-pub numbers-at : (l : List ℕ) (i : ℕ) → 2 * i + 1 < length l → getD (numbersFrom l) i (pos 0) ≡ signedAt l (2 * i)
-unfolding numbersFrom unsignedAt signedAt
+pub numbers-at : (l : List ℕ) (i : ℕ) → 2 * i + 1 < length l → getD (numbersFrom l) i (pos 0) ≡ signed16 (number16 (getD l (2 * i) 0) (getD l (2 * i + 1) 0))
+unfolding numbersFrom
 numbers-at [] i h = absurd (omega arith)
 numbers-at (high ∷ []) i h = absurd (omega arith)
 numbers-at (high ∷ low ∷ l) zero h = refl
 numbers-at (high ∷ low ∷ l) (suc i) h =
-    numbers-at l i (omega arith) ∙ ap (signedAt (high ∷ low ∷ l)) {x = suc (suc (2 * i))} {y = 2 * suc i} (omega arith)
-
-pub bytes-high : (l : List ℤ) (i : ℕ) → getD (bytesOf l) (2 * i) 0 ≡ bits16 (getD l i (pos 0)) / 256
-unfolding bytesOf bytes16 bits16
-bytes-high [] i = refl
-bytes-high (z ∷ l) zero = refl
-bytes-high (z ∷ l) (suc i) =
-    ap (λ (k : ℕ). getD (bytesOf (z ∷ l)) k 0) {x = 2 * suc i} {y = suc (suc (2 * i))} (omega arith) ∙ bytes-high l i
-
-pub bytes-low : (l : List ℤ) (i : ℕ) → getD (bytesOf l) (2 * i + 1) 0 ≡ bits16 (getD l i (pos 0)) % 256
-unfolding bytesOf bytes16 bits16
-bytes-low [] i = refl
-bytes-low (z ∷ l) zero = refl
-bytes-low (z ∷ l) (suc i) =
-    ap (λ (k : ℕ). getD (bytesOf (z ∷ l)) k 0) {x = 2 * suc i + 1} {y = suc (suc (2 * i + 1))} (omega arith) ∙ bytes-low l i
+    let e : suc (suc (2 * i)) ≡ 2 * suc i = omega arith in
+    let f : suc (suc (2 * i + 1)) ≡ 2 * suc i + 1 = omega arith in
+    numbers-at l i (omega arith) ∙ ap₂ (λ (j k : ℕ). signed16 (number16 (getD (high ∷ low ∷ l) j 0) (getD (high ∷ low ∷ l) k 0))) e f
 
 -- ---- the rest of a list from place n on, as it is lent
 

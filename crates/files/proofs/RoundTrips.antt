@@ -15,13 +15,17 @@ use Rattle.refusals.proofs.Checks.{passed, holds-passed, none-left, done-holds,
 use Rattle.parameters.specs.Sets.{ParameterSet, set, parameterChecks}
 use Rattle.packing.specs.Messages.{listed}
 use Rattle.packing.specs.Promises.{Bytes}
-use Rattle.files.specs.Files.{knownKind, headLength, bytes16, number16, bits16, signed16, unsignedAt, signedAt, headOf, numbersOf, headBytes, bytesOf, fileOf}
-use Rattle.files.specs.Calls.{marked, versionOne, headChecks, readingHead, readingChecks, reading, givenChecks, writingChecks, writing}
+use Rattle.heads.specs.Kinds.{knownKind}
+use Rattle.heads.specs.Heads.{headLength, bytes16, number16, bits16, signed16, unsignedAt, signedAt, headOf, headBytes}
+use Rattle.files.specs.Files.{numbersOf, bytesOf, fileOf}
+use Rattle.heads.specs.Calls.{marked, versionOne, headChecks, readingHead}
+use Rattle.files.specs.Calls.{readingChecks, reading, givenChecks, writingChecks, writing}
 use Rattle.files.specs.Promises.{Reading-undoes-writing, Writing-undoes-reading, Written-bytes}
-use Rattle.files.proofs.ArraysOfKinds.{kind-small}
-use Rattle.files.proofs.Numbers.{Fits16, signed-bits, bits-signed, bits-lt, number-bytes, bytes-number, number-lt}
+use Rattle.heads.proofs.ArraysOfKinds.{kind-small}
+use Rattle.heads.proofs.Numbers.{Fits16, signed-bits, bits-signed, bits-lt, number-bytes, bytes-number, number-lt}
 use Rattle.files.proofs.Lists.{Fitting, fitting-small, bytes-length, numbers-length, numbers-of-bytes, bytes-of-numbers}
-use Rattle.files.proofs.Passed.{Head, head-passed, PartsFit, parts-fit, contents-passed, contents-small, file-bytes}
+use Rattle.heads.proofs.HeadChecks.{Head, head-passed, PartsFit, parts-fit}
+use Rattle.files.proofs.Passed.{contents-passed, contents-small, file-bytes}
 
 -- ---- a file that is written
 

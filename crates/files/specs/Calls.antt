@@ -1,34 +1,18 @@
--- The outcomes of reading a head, reading a file and writing one. An output is known by its length, `room`.
+-- The outcomes of reading a file and writing one. An output is known by its length, `room`.
 use mathlib.Core.Bool.{Bool, not, _&&_}
 use mathlib.Core.List.{List, [], _∷_, _++_}
 use Prim.Native.Nat.{ℕ, _*_}
-use lib.Dec.{ltb, eqb}
+use lib.Dec.{eqb}
 use lib.IntN.{ℤ}
-use lib.ListN.{length, getD, take, drop}
+use lib.ListN.{length, take, drop}
 use Rattle.refusals.specs.Outcomes.{Check, Outcome, outcome, _if_}
 use Rattle.parameters.specs.Sets.{ParameterSet, parameterChecks}
 use Rattle.arrays.specs.declared.ArraySet.{ArraySet}
 use Rattle.arrays.specs.Arrays.{inSet, notInSet}
-use Rattle.files.specs.Files.{arraysOf, knownKind, headLength, version, fileNumbers, fileBytes, unsignedAt, headOf, numbersOf, fileOf}
-
--- "mark is not EIZ", "version is not 1": what bytes 0 to 4 are to be
-unfoldable pub marked : List ℕ → Bool
-marked file = eqb (getD file 0 0) 69 && (eqb (getD file 1 0) 73 && eqb (getD file 2 0) 90)
-
-unfoldable pub versionOne : List ℕ → Bool
-versionOne file = eqb (unsignedAt file 3) version
-
--- The refusals of a head, in order.
-unfoldable pub headChecks : ℕ → List ℕ → List Check
-headChecks kind file =
-    16 if ltb (length file) headLength
-    ∷ 17 if not (marked file)
-    ∷ 18 if not (versionOne file)
-    ∷ 19 if not (knownKind kind && eqb (getD file 5 0) kind)
-    ∷ []
-
-unfoldable pub readingHead : ℕ → List ℕ → Outcome ParameterSet
-readingHead kind file = outcome (headChecks kind file ++ parameterChecks (headOf file)) (headOf file)
+use Rattle.heads.specs.Kinds.{arraysOf, knownKind}
+use Rattle.heads.specs.Heads.{headOf}
+use Rattle.heads.specs.Calls.{headChecks}
+use Rattle.files.specs.Files.{fileNumbers, fileBytes, numbersOf, fileOf}
 
 -- "its arrays in stored order": each array is the next 2N numbers
 unfoldable pub setChecks : ParameterSet → List ArraySet → List ℤ → List Check

@@ -7,8 +7,9 @@ use lib.ListN.{length}
 use Rattle.refusals.specs.Outcomes.{done}
 use Rattle.parameters.specs.Sets.{ParameterSet}
 use Rattle.packing.specs.Promises.{Bytes}
-use Rattle.files.specs.Files.{headOf}
-use Rattle.files.specs.Calls.{readingHead, reading, writing}
+use Rattle.heads.specs.Heads.{headOf}
+use Rattle.heads.specs.Calls.{readingHead}
+use Rattle.files.specs.Calls.{reading, writing}
 
 -- What is written reads back to the same parameters and the same numbers.
 abbrev pub Reading-undoes-writing : Type 0

@@ -1,4 +1,4 @@
-// Files: reading a head, reading a file of a wanted kind, and writing one.
+// Files: reading a file of a wanted kind, and writing one.
 // It works on lent bytes, opens no file of the system, and does not test whether F2 and Fq are inverses.
 // Each call ends with a result, or with document 01's first refusal that applies, and then its output is as it came.
 // At every N `read` takes less than 10 KiB of stack, and each other call less than 1 KiB.
@@ -7,25 +7,21 @@ ghost use lib.IntN.{pos};
 ghost use lib.ListN.{length, replicate};
 ghost use Rattle.refusals.specs.Outcomes.{number, Gives};
 ghost use Rattle.refusals.specs.Numbers.{answered};
-ghost use Rattle.parameters.specs.Sets.{setOf, made};
+ghost use Rattle.parameters.specs.Sets.{setOf};
 ghost use Rattle.files.specs.Files.{fileNumbers, fileBytes};
-ghost use Rattle.files.specs.Calls.{readingHead, reading, writing};
+ghost use Rattle.files.specs.Calls.{reading, writing};
 
-mod bytes;
 mod contents;
-mod heads;
-pub mod kinds;
 mod reading;
 mod stored;
 mod writing;
 
+use heads::HEAD_BYTES;
+use heads::kinds;
 use parameters::Made;
 use parameters::Parameters;
 use refusals::Answer;
 use refusals::Refusal;
-
-// A head takes bytes 0 to 15.
-pub(crate) const HEAD_BYTES: usize = 16;
 
 // The lengths of a file of this kind, in bytes and in numbers of its arrays.
 pub fn file_bytes(kind: u32, n: u32) -> usize
@@ -49,21 +45,11 @@ pub fn four_arrays() -> [i32; 8192]
     [0i32; 8192]
 }
 
-// The parameters of a file of the wanted kind, from its head alone: they tell how long the file is and how many numbers it holds.
-pub fn read_head(kind: u32, file: &[u8]) -> Made
-    ensures { λ r. ⌜ made r ≡ readingHead kind (now (file .entry)) ⌝ }
-{
-    match heads::head_refusal(kind, file) {
-        Answer::Done => heads::head_parameters(file),
-        Answer::Refused(refusal) => Made::Refused(refusal),
-    }
-}
-
 // The arrays of a file of the wanted kind, one after another in stored order, to numbers.
 pub fn read(kind: u32, file: &[u8], numbers: &mut [i32]) -> Answer
     ensures { λ r. ⌜ Gives (reading kind (now (file .entry)) (length (now (numbers .entry)))) (number (answered r)) (now (numbers .entry)) (now (numbers .exit)) ⌝ }
 {
-    match read_head(kind, file) {
+    match heads::read_head(kind, file) {
         Made::Accepted(p) => reading::read_content(kind, p, file, numbers),
         Made::Refused(refusal) => Answer::Refused(refusal),
     }

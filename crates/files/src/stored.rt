@@ -4,8 +4,8 @@ ghost use Prim.Native.Nat.{_*_};
 ghost use lib.ListN.{length};
 ghost use Rattle.arrays.specs.Arrays.{Small};
 ghost use Rattle.files.specs.Files.{numbersFrom, bytesOf};
-use crate::bytes::bits_of;
-use crate::bytes::signed_at;
+use heads::bytes::bits_of;
+use heads::bytes::signed;
 
 pub(crate) fn read_numbers(bytes: &[u8], numbers: &mut [i32])
     requires { ⌜ length (now bytes) ≡ 2 * length (now numbers) ⌝ }
@@ -13,7 +13,7 @@ pub(crate) fn read_numbers(bytes: &[u8], numbers: &mut [i32])
 {
     let mut k = 0;
     while k < numbers.len() {
-        let z = signed_at(bytes, 2 * k);
+        let z = signed(bytes[2 * k], bytes[2 * k + 1]);
         numbers[k] = z;
         k += 1;
     }
@@ -25,7 +25,7 @@ pub(crate) fn write_numbers(numbers: &[i32], bytes: &mut [u8])
 {
     let mut i = 0;
     while i < numbers.len() {
-        let bits = bits_of(numbers[i]);
+        let bits = bits_of(numbers[i] as i16);
         bytes[2 * i] = (bits / 256) as u8;
         bytes[2 * i + 1] = (bits % 256) as u8;
         i += 1;

@@ -7,13 +7,15 @@ ghost use Rattle.refusals.specs.Outcomes.{outcome, number, Gives, Passes};
 ghost use Rattle.refusals.specs.Numbers.{answered};
 ghost use Rattle.parameters.specs.Sets.{setOf, parameterChecks};
 ghost use Rattle.arrays.specs.Arrays.{Small};
-ghost use Rattle.files.specs.Files.{knownKind, headLength, fileOf};
+ghost use Rattle.heads.specs.Kinds.{knownKind};
+ghost use Rattle.heads.specs.Heads.{headLength};
+ghost use Rattle.files.specs.Files.{fileOf};
 ghost use Rattle.files.specs.Calls.{givenChecks, writingContent};
-use crate::HEAD_BYTES;
 use crate::contents::lengths_right;
 use crate::contents::sets_refusal;
-use crate::heads::write_head;
 use crate::stored::write_numbers;
+use heads::HEAD_BYTES;
+use heads::write_head;
 use parameters::Parameters;
 use refusals::Answer;
 use refusals::Refusal;
@@ -34,7 +36,8 @@ fn write_file(kind: u32, p: Parameters, numbers: &[i32], file: &mut [u8])
     requires { ⌜ (length (now file) ≡ headLength + 2 * length (now numbers)) × Small (now numbers) ⌝ }
     ensures { λ _. ⌜ now (file .exit) ≡ fileOf kind (setOf p) (now (numbers .entry)) ⌝ }
 {
-    write_head(kind, p, file);
+    // Nothing is refused: the kind, the parameters and the lengths have passed.
+    let _answer: Answer = write_head(kind, p, file);
     write_numbers(numbers, &mut file[HEAD_BYTES..]);
 }
 

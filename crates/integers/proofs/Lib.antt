@@ -5,3 +5,4 @@ pub mod Absolute
 pub mod Floor
 pub mod Tests
 pub mod Machine
+pub mod Stores

@@ -10,8 +10,9 @@ use Rattle.refusals.specs.Numbers.{numberOf}
 use Rattle.refusals.specs.declared.Refusal.{Refusal}
 use Rattle.refusals.proofs.Checks.{refused-first}
 use Rattle.parameters.specs.Sets.{ParameterSet}
-use Rattle.files.specs.Files.{headLength, fileBytes, headOf}
-use Rattle.files.specs.Calls.{readingHead}
+use Rattle.heads.specs.Heads.{headLength, headOf}
+use Rattle.files.specs.Files.{fileBytes}
+use Rattle.heads.specs.Calls.{readingHead}
 use Rattle.files.proofs.Lists.{rest-taken}
 use Rattle.files.proofs.Passed.{file-bytes}
 use Rattle.opening.specs.Program.{firstLength, fileChecks, openingPair, openingFiles}

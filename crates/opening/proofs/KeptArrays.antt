@@ -1,11 +1,11 @@
--- The arrays at the front of the lent numbers, once the sealed array stands behind them.
+-- Arrays of a part of the numbers: at the front of the lent ones, once the sealed array stands behind them, and of what follows.
 use mathlib.Core.Path.{_≡_, sym, _∙_, ap}
 use mathlib.Core.List.{List, _++_}
 use Prim.Native.Nat.{ℕ, _+_, _-_, _*_, _≤_}
 use native.Mathlib.Omega.{arith}
 use lib.IntN.{ℤ}
 use lib.ListN.{length, take, drop, length-drop}
-use lib.Seq.{take-add, take-at, drop-at, take-take, length-take-le, take-append-le, drop-append-le}
+use lib.Seq.{drop-drop, take-add, drop-at, take-take, length-take-le, take-append-le, drop-append-le}
 use Rattle.parameters.specs.Sets.{ParameterSet}
 use Rattle.files.specs.Files.{fileNumbers, arrayAt}
 use Rattle.opening.specs.Steps.{keyIn}
@@ -31,8 +31,9 @@ unfolding arrayAt
 array-kept p k c l rest h i j =
     part-kept (2 * p .N) (2 * p .N * k) c l rest h (omega arith) ∙ sym (part-of-front (2 * p .N) (2 * p .N * k) (fileNumbers 2 (p .N)) l (omega arith) j)
 
--- the sealed array, where it has as many coefficients
-pub sealed-kept : (p : ParameterSet) (l e rest : List ℤ) → 4 * p .N ≤ length l → length e ≡ 2 * p .N → arrayAt p 2 (take (4 * p .N) l ++ (e ++ rest)) ≡ e
+-- array k of what follows, as an array of all
+pub array-of-rest : (p : ParameterSet) (k j : ℕ) (l : List ℤ) (n from : ℕ) → 2 * p .N * k + 2 * p .N ≤ n → from + 2 * p .N * k ≡ 2 * p .N * j → from + n ≤ length l → arrayAt p k (take n (drop from l)) ≡ arrayAt p j l
 unfolding arrayAt
-sealed-kept p l e rest h m =
-    ap (take (2 * p .N)) (drop-at (take (4 * p .N) l) (e ++ rest) (2 * p .N * 2) (length-take-le (4 * p .N) l h ∙ omega arith)) ∙ take-at e rest (2 * p .N) m
+array-of-rest p k j l n from h e m =
+    part-of-front (2 * p .N) (2 * p .N * k) n (drop from l) h (omega (arith, length-drop from l))
+    ∙ ap (take (2 * p .N)) (drop-drop (2 * p .N * k) from l ∙ ap (λ (i : ℕ). drop i l) e)

@@ -12,12 +12,15 @@ use Rattle.refusals.specs.Outcomes.{Check, Outcome, done, refused, outcome}
 use Rattle.refusals.proofs.Checks.{passed-all, refused-first, fails-refused}
 use Rattle.parameters.specs.Sets.{parameterChecks}
 use Rattle.parameters.proofs.AcceptedParameters.{accepted-parameters}
-use Rattle.files.specs.Files.{headLength, arraysOf, fileNumbers, fileBytes, headOf, numbersOf}
-use Rattle.files.specs.Calls.{headChecks, contentChecks, readingChecks}
+use Rattle.heads.specs.Kinds.{arraysOf}
+use Rattle.heads.specs.Heads.{headLength, headOf}
+use Rattle.files.specs.Files.{fileNumbers, fileBytes, numbersOf}
+use Rattle.heads.specs.Calls.{headChecks}
+use Rattle.files.specs.Calls.{contentChecks, readingChecks}
 use Rattle.files.proofs.Passed.{file-bytes}
 use Rattle.files.proofs.Bounds.{numbers-few}
 use Rattle.opening.proofs.FirstBytes.{head-of-start, checks-of-start}
-use Rattle.opening.specs.Lines.{lineOf}
+use Rattle.lines.specs.Lines.{lineOf}
 use Rattle.opening.specs.Program.{firstLength, fileChecks, openingPair, openingFiles, openingLine}
 use Rattle.opening.specs.Promises.{Long-input-line}
 

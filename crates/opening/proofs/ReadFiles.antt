@@ -16,8 +16,11 @@ use Rattle.parameters.specs.Sets.{ParameterSet, parameterChecks}
 use Rattle.arrays.specs.declared.ArraySet.{ArraySet}
 use Rattle.arrays.specs.declared.ArraySet.the-variants.{F, G, Phi, ReducedModulo2, ReducedModuloQ}
 use Rattle.parameters.proofs.AcceptedParameters.{accepted-parameters}
-use Rattle.files.specs.Files.{arraysOf, fileNumbers, fileBytes, headOf, numbersOf}
-use Rattle.files.specs.Calls.{headChecks, readingHead, setChecks, contentChecks, readingChecks, reading}
+use Rattle.heads.specs.Kinds.{arraysOf}
+use Rattle.heads.specs.Heads.{headOf}
+use Rattle.files.specs.Files.{fileNumbers, fileBytes, numbersOf}
+use Rattle.heads.specs.Calls.{headChecks, readingHead}
+use Rattle.files.specs.Calls.{setChecks, contentChecks, readingChecks, reading}
 use Rattle.files.proofs.Passed.{contents-passed}
 use Rattle.opening.specs.Program.{fileChecks}
 

@@ -21,7 +21,8 @@ use Rattle.arrays.specs.Arrays.{full}
 use Rattle.arrays.specs.declared.ArraySet.the-variants.{F, G, ReducedModulo2, ReducedModuloQ}
 use Rattle.etru.specs.Scheme.{publicKey}
 use Rattle.etru.specs.Calls.{keyChecks, keyCheck, openingChecks, opening}
-use Rattle.files.specs.Files.{arraysOf, fileNumbers, arrayAt}
+use Rattle.heads.specs.Kinds.{arraysOf}
+use Rattle.files.specs.Files.{fileNumbers, arrayAt}
 use Rattle.files.specs.Calls.{setChecks}
 use Rattle.arrays.proofs.ArrayChecks.{own}
 use Rattle.files.proofs.SetChecks.{first-array, next-array}

@@ -22,13 +22,15 @@ use Rattle.etru.specs.Calls.{keyChecks, keyCheck, openingChecks, opening}
 use Rattle.etru.specs.Demand3.{AcceptedKey, Opens}
 use Rattle.etru.proofs.Passed.{Checking, key-passed, opening-passed}
 use Rattle.etru.proofs.Demand3.{Key, accepted-key, demand-3}
-use Rattle.files.specs.Files.{arraysOf, knownKind, headLength, fileNumbers, fileBytes, number16, unsignedAt, headOf, arrayAt, fileOf}
+use Rattle.heads.specs.Kinds.{arraysOf, knownKind}
+use Rattle.heads.specs.Heads.{headLength, number16, unsignedAt, headOf}
+use Rattle.files.specs.Files.{fileNumbers, fileBytes, arrayAt, fileOf}
 use Rattle.files.specs.Calls.{setChecks, contentChecks, writingChecks, writing}
 use Rattle.arrays.proofs.ArrayChecks.{own}
-use Rattle.files.proofs.ArraysOfKinds.{private-arrays, sealed-arrays}
+use Rattle.heads.proofs.ArraysOfKinds.{private-arrays, sealed-arrays}
 use Rattle.files.proofs.Passed.{file-bytes}
 use Rattle.files.proofs.RoundTrips.{reading-undoes-writing}
-use Rattle.opening.specs.Lines.{decimal, lineOf}
+use Rattle.lines.specs.Lines.{decimal, lineOf}
 use Rattle.opening.specs.Program.{firstLength, fileChecks, sameSet, pairChecks, inverseChecks, messageOf, openingPair, openingFiles, openingLine}
 use Rattle.opening.specs.Promises.{OpensFiles, Written-files-open}
 use Rattle.opening.proofs.JoinedArrays.{first-array, later-array, first-check, last-check}

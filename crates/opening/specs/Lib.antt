@@ -1,4 +1,3 @@
-pub mod Lines
 pub mod Program
 pub mod Steps
 pub mod Promises

@@ -12,9 +12,10 @@ use Rattle.polynomials.specs.Polynomials.{coefficient}
 use Rattle.packing.specs.Messages.{unpacked}
 use Rattle.etru.specs.Scheme.{opened}
 use Rattle.etru.specs.Calls as etru
-use Rattle.files.specs.Files.{fileNumbers, fileBytes, headOf, numbersOf, arrayAt}
+use Rattle.heads.specs.Heads.{headOf}
+use Rattle.files.specs.Files.{fileNumbers, fileBytes, numbersOf, arrayAt}
 use Rattle.files.specs.Calls.{readingChecks}
-use Rattle.opening.specs.Lines.{lineOf}
+use Rattle.lines.specs.Lines.{lineOf}
 
 -- "reads the first file as far as its own head says, then all the rest as the second"
 unfoldable pub firstLength : List ℕ → ℕ

@@ -10,7 +10,7 @@ use Rattle.etru.specs.Calls.{sealing}
 use Rattle.etru.specs.Demand3.{AcceptedKey, Ephemeral, Message}
 use Rattle.files.specs.Files.{fileBytes}
 use Rattle.files.specs.Calls.{writing}
-use Rattle.opening.specs.Lines.{hex}
+use Rattle.lines.specs.Lines.{hex}
 use Rattle.opening.specs.Program.{openingLine}
 
 -- With any accepted key, any ephemeral and any message: sealing is not refused, nor is writing the private file and the sealed file, and on the two the line is `0` and the message.

@@ -4,14 +4,16 @@ use mathlib.Core.Bool.{not}
 use mathlib.Core.List.{List, [], _∷_, _++_}
 use Prim.Native.Nat.{ℕ}
 use lib.IntN.{ℤ}
-use lib.ListN.{length, take}
-use Rattle.refusals.specs.Outcomes.{Outcome, outcome, done, refused, Passes, _if_}
+use lib.ListN.{length, take, drop}
+use Rattle.refusals.specs.Outcomes.{Outcome, outcome, done, refused, Gives, Passes, _if_}
 use Rattle.refusals.specs.Numbers.{numberOf}
 use Rattle.parameters.specs.Sets.{ParameterSet, parameterChecks}
 use Rattle.packing.specs.Messages.{messageBytes}
-use Rattle.etru.specs.Calls.{opening}
-use Rattle.files.specs.Files.{arraysOf, fileNumbers, headOf, numbersOf, arrayAt}
-use Rattle.files.specs.Calls.{setChecks}
+use Rattle.etru.specs.Calls.{keyCheck, opening}
+use Rattle.heads.specs.Kinds.{arraysOf}
+use Rattle.heads.specs.Heads.{headOf}
+use Rattle.files.specs.Files.{fileNumbers, numbersOf, arrayAt}
+use Rattle.files.specs.Calls.{setChecks, reading}
 use Rattle.opening.specs.Program.{fileChecks, sameSet, pairChecks, messageOf}
 use Rattle.opening.specs.declared.Opened.{Opened}
 use Rattle.opening.specs.declared.Opened.the-variants.{Message, Refused}
@@ -26,9 +28,19 @@ pub record KeyRead (p : ParameterSet) (numbers : List ℤ) : Type 0 where
 abbrev pub keyIn : ParameterSet → List ℤ → List ℤ
 keyIn p l = take (fileNumbers 2 (p .N)) l
 
+-- The key check with Fq and g one after another in an array.
+abbrev pub keyCheckIn : ParameterSet → (f F2 rest : List ℤ) → ℕ → Outcome (List ℤ)
+keyCheckIn p f F2 rest room = keyCheck p f F2 (arrayAt p 0 rest) (arrayAt p 1 rest) room
+
 -- The room that is lent: four arrays and a message, each at the largest N.
 abbrev pub Room : List ℤ → List ℕ → Type 0
 Room numbers message = (length numbers ≡ 8192) × (length message ≡ 256)
+
+-- The sealed file, read to a part of the numbers: what stands before that part is as it came.
+abbrev pub SealedRead : (from count : ℕ) → List ℕ → ℕ → (old new : List ℤ) → Type 0
+SealedRead from count file n old new =
+    (take from new ≡ take from old)
+    × Gives (reading 3 file (length (take count (drop from old)))) n (take count (drop from old)) (take count (drop from new))
 
 -- A refusal that came before, or this outcome.
 abbrev pub after : {A : Type 0} → Outcome (Unit {0}) → Outcome A → Outcome A

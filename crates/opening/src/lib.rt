@@ -6,22 +6,19 @@ ghost use Prim.Native.Nat.{min};
 ghost use lib.ListN.{length, drop};
 ghost use Rattle.refusals.specs.Outcomes.{number, Gives};
 ghost use Rattle.refusals.specs.Numbers.{answered};
-ghost use Rattle.opening.specs.Lines.{lineOf};
+ghost use Rattle.lines.specs.Lines.{lineOf};
 ghost use Rattle.opening.specs.Program.{openingFiles, openingLine, lineWriting, lineLength};
 ghost use Rattle.opening.specs.Steps.{openedIs};
 
 mod keys;
-mod lines;
 mod messages;
 mod private_files;
 mod sealed_files;
 
+use lines::LINE_BYTES;
 use parameters::Made;
 use refusals::Answer;
 use refusals::Refusal;
-
-// The longest line: `0`, a space, 256 bytes in hexadecimal and a newline.
-pub const LINE_BYTES: usize = 515;
 
 // A message of so many bytes, or the first refusal.
 pub(crate) enum Opened {
@@ -42,7 +39,7 @@ fn open_input(input: &[u8], message: &mut [u8]) -> Opened
     requires { ⌜ length (now message) ≡ 256 ⌝ }
     ensures { λ r. ⌜ openedIs r (now (message .exit)) ≡ openingFiles (now (input .entry)) ⌝ }
 {
-    match files::read_head(files::kinds::PRIVATE, input) {
+    match heads::read_head(heads::kinds::PRIVATE, input) {
         Made::Accepted(p) => private_files::open_private(p, input, message),
         Made::Refused(refusal) => Opened::Refused(refusal),
     }
@@ -66,7 +63,7 @@ fn write_opened(opened: Opened, message: &[u8], line: &mut [u8]) -> usize
             let end = least(n, message.len());
             lines::write_message(&message[..end], line)
         }
-        Opened::Refused(refusal) => lines::write_refusal(refusal.number(), line),
+        Opened::Refused(refusal) => lines::write_refusal(refusal, line),
     }
 }
 

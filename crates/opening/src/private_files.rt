@@ -5,7 +5,7 @@ ghost use lib.ListN.{length};
 ghost use Rattle.refusals.specs.Outcomes.{done};
 ghost use Rattle.parameters.specs.Sets.{setOf};
 ghost use Rattle.files.specs.Files.{fileBytes};
-ghost use Rattle.files.specs.Calls.{readingHead};
+ghost use Rattle.heads.specs.Calls.{readingHead};
 ghost use Rattle.opening.specs.Program.{openingPair, openingFiles};
 ghost use Rattle.opening.specs.Steps.{Room, openedIs};
 use crate::Opened;
@@ -26,8 +26,8 @@ fn open_private_in(
     ensures { λ r. ⌜ openedIs r (now (message .exit)) ≡ openingPair (now (first .entry)) (now (second .entry)) ⌝ }
 {
     let n = p.n;
-    let k = files::file_numbers(files::kinds::PRIVATE, n);
-    match files::read(files::kinds::PRIVATE, first, &mut numbers[..k]) {
+    let k = files::file_numbers(heads::kinds::PRIVATE, n);
+    match files::read(heads::kinds::PRIVATE, first, &mut numbers[..k]) {
         Answer::Done => open_sealed(p, second, numbers, message),
         Answer::Refused(refusal) => Opened::Refused(refusal),
     }
@@ -37,7 +37,7 @@ fn open_private_in(
 fn first_end(n: u32, all: usize) -> usize
     ensures { λ r. ⌜ r ≡ min (fileBytes 2 n) all ⌝ }
 {
-    least(files::file_bytes(files::kinds::PRIVATE, n), all)
+    least(files::file_bytes(heads::kinds::PRIVATE, n), all)
 }
 
 pub(crate) fn open_private(p: Parameters, input: &[u8], message: &mut [u8]) -> Opened

@@ -1,11 +1,13 @@
 // The second file: a sealed one. The numbers of the first one are at the front of the lent ones.
 ghost use mathlib.Core.Path.{_≡_};
-ghost use Rattle.refusals.specs.Outcomes.{done, outcome};
+ghost use Prim.Native.Nat.{_*_, _≤_};
+ghost use lib.ListN.{length};
+ghost use Rattle.refusals.specs.Outcomes.{done, outcome, number};
 ghost use Rattle.refusals.specs.Numbers.{answered};
 ghost use Rattle.parameters.specs.Sets.{setOf};
-ghost use Rattle.files.specs.Calls.{readingHead};
+ghost use Rattle.heads.specs.Calls.{readingHead};
 ghost use Rattle.opening.specs.Program.{inverseChecks};
-ghost use Rattle.opening.specs.Steps.{KeyRead, keyIn, Room, openingSealed, openedIs};
+ghost use Rattle.opening.specs.Steps.{KeyRead, keyIn, Room, SealedRead, openingSealed, openedIs};
 use crate::Opened;
 use crate::keys::key_refusal;
 use crate::messages::open_pair;
@@ -13,7 +15,16 @@ use parameters::Made;
 use parameters::Parameters;
 use refusals::Answer;
 
-// The sealed array takes the place of Fq and g, which opening does not use.
+// The sealed array takes the place of Fq and g, which opening does not use. n is N of the key, m that of the sealed file.
+fn read_sealed(n: u32, m: u32, file: &[u8], numbers: &mut [i32]) -> Answer
+    requires { ⌜ (n ≤ 1024) × (m ≤ 1024) × (length (now numbers) ≡ 8192) ⌝ }
+    ensures { λ r. ⌜ SealedRead (4 * n) (2 * m) (now (file .entry)) (number (answered r)) (now (numbers .entry)) (now (numbers .exit)) ⌝ }
+{
+    let f2_end = 4 * (n as usize);
+    let end = f2_end + 2 * (m as usize);
+    files::read(heads::kinds::SEALED, file, &mut numbers[f2_end..end])
+}
+
 fn open_sealed_in(
     p: Parameters,
     key: Answer,
@@ -28,10 +39,8 @@ fn open_sealed_in(
     ensures { λ r. ⌜ openedIs r (now (message .exit)) ≡ openingSealed (setOf p) (keyIn (setOf p) (now (numbers .entry))) (now (file .entry)) ⌝ }
 {
     let n = p.n;
-    let sealed_n = sealed.n;
-    let f2_end = 4 * (n as usize);
-    let end = f2_end + 2 * (sealed_n as usize);
-    match files::read(files::kinds::SEALED, file, &mut numbers[f2_end..end]) {
+    let m = sealed.n;
+    match read_sealed(n, m, file, numbers) {
         Answer::Done => open_pair(p, key, sealed, numbers, message),
         Answer::Refused(refusal) => Opened::Refused(refusal),
     }
@@ -48,9 +57,9 @@ pub(crate) fn open_sealed(
     ensures { λ r. ⌜ openedIs r (now (message .exit)) ≡ openingSealed (setOf p) (keyIn (setOf p) (now (numbers .entry))) (now (file .entry)) ⌝ }
 {
     let n = p.n;
-    let k = files::file_numbers(files::kinds::PRIVATE, n);
+    let k = files::file_numbers(heads::kinds::PRIVATE, n);
     let key = key_refusal(p, &numbers[..k]);
-    match files::read_head(files::kinds::SEALED, file) {
+    match heads::read_head(heads::kinds::SEALED, file) {
         Made::Accepted(sealed) => open_sealed_in(p, key, sealed, file, numbers, message),
         Made::Refused(refusal) => Opened::Refused(refusal),
     }

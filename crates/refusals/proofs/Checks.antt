@@ -180,3 +180,7 @@ pub gives-refused : {A : Type 0} (cs : List Check) (v old : A) (n : ℕ) → out
 gives-refused {A} cs v old n e =
     let o = refused-with cs v n e in
     (sym (ap number o), sym (ap (λ (x : Outcome A). written x old) o))
+
+-- by an outcome that is equal to its own
+pub gives-same : {A : Type 0} {o r : Outcome A} {n : ℕ} (old : A) {new : A} → o ≡ r → Gives r n old new → Gives o n old new
+gives-same {A} old e g = (g .0 ∙ sym (ap number e), g .1 ∙ sym (ap (λ (x : Outcome A). written x old) e))

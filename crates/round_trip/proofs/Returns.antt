@@ -9,7 +9,7 @@ use Rattle.refusals.specs.Numbers.{numberOf, answered}
 use Rattle.refusals.specs.declared.Answer.{Answer}
 use Rattle.refusals.specs.declared.Answer.the-variants.{Done, Refused}
 use Rattle.refusals.specs.declared.Refusal.{Refusal}
-use Rattle.refusals.proofs.Checks.{done-as-written, refused-by-number}
+use Rattle.refusals.proofs.Checks.{done-as-written, refused-by-number, gives-same}
 use Rattle.refusals.proofs.Numbers.{number-positive}
 use Rattle.parameters.specs.Sets.{ParameterSet, parameterChecks}
 use Rattle.polynomials.specs.Polynomials.{coefficient, array}
@@ -19,13 +19,10 @@ use Rattle.etru.specs.Calls.{keyChecks, keyCheck, sealingChecks, sealing, openi
 use Rattle.etru.proofs.Demand3.{demand-3}
 use Rattle.round_trip.specs.RoundTrip.{next, checkedSealing, roundTrip, Round-trip-returns, sealingTwice, checkedSealingTwice, Lent}
 
--- ---- outcomes that are equal give the same
+-- ---- outcomes that are equal write the same
 
 pub wrote-same : {A : Type 0} {o o′ : Outcome A} (old : A) → o ≡ o′ → written o′ old ≡ written o old
 wrote-same {A} old e = sym (ap (λ (x : Outcome A). written x old) e)
-
-pub gives-same : {A : Type 0} {o o′ : Outcome A} {n : ℕ} (old : A) {new : A} → o ≡ o′ → Gives o′ n old new → Gives o n old new
-gives-same old e g = (g .0 ∙ sym (ap number e), g .1 ∙ wrote-same old e)
 
 -- ---- an outcome from its number
 

@@ -88,14 +88,7 @@ fn add_fours(sums: &mut [i32], twice: &[i16], n: usize, places: &[u16], count: u
 }
 
 // Adds the rotations by the places after them.
-fn add_rest(
-    sums: &mut [i32],
-    twice: &[i16],
-    n: usize,
-    places: &[u16],
-    from: usize,
-    count: usize,
-)
+fn add_rest(sums: &mut [i32], twice: &[i16], n: usize, places: &[u16], from: usize, count: usize)
     requires { ⌜ (from ≤ count) × Summands n (2 ^ 29 + from * 8191) (now sums) (now twice) (now places) count ⌝ }
     ensures { λ _. ⌜ Summed n (λ i. sum (count - from) (λ m. run n (now (twice .entry)) (getD (now (places .entry)) (from + m) 0) i)) ((count - from) * 8191) (now (sums .entry)) (now (sums .exit)) ⌝ }
 {

@@ -14,9 +14,12 @@ use Rattle.polynomials.specs.Polynomials.{coefficient, array, sum, convolution,
 use Rattle.packing.specs.Messages.{bitOf, pair, packed, spareBitSet, messageBit, byte, listed, unpacked}
 use Rattle.etru.specs.Scheme.{publicKey, sealed, opened}
 use Rattle.etru.specs.Calls.{keyChecks, keyCheck, sealingChecks, sealing, openingChecks, opening}
-use Rattle.files.specs.Files.{arraysOf, fileNumbers, fileBytes, bytes16, number16, bits16, signed16, unsignedAt, signedAt, headOf, numbersFrom, arrayAt, headBytes, bytesOf, fileOf}
-use Rattle.files.specs.Calls.{marked, versionOne, headChecks, setChecks, contentChecks, readingChecks, reading, writingChecks, writing}
-use Rattle.opening.specs.Lines.{decimal, hexDigit, hex}
+use Rattle.heads.specs.Kinds.{arraysOf}
+use Rattle.heads.specs.Heads.{bytes16, number16, bits16, signed16, unsignedAt, signedAt, headOf, headBytes}
+use Rattle.files.specs.Files.{fileNumbers, fileBytes, numbersFrom, arrayAt, bytesOf, fileOf}
+use Rattle.heads.specs.Calls.{marked, versionOne, headChecks}
+use Rattle.files.specs.Calls.{setChecks, contentChecks, readingChecks, reading, writingChecks, writing}
+use Rattle.lines.specs.Lines.{decimal, hexDigit, hex}
 use Rattle.opening.specs.Program.{firstLength, fileChecks, sameSet, inverseChecks, pairChecks, messageOf, openingPair, openingFiles, openingLine}
 use Rattle.worked_examples.specs.Rows.{Rows-hold}
 

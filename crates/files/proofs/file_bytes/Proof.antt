@@ -3,8 +3,9 @@ use mathlib.Core.Path.{sym, ap, subst}
 use Prim.Native.Nat.{ℕ, _+_, _*_, _^_, _≤_}
 use native.Mathlib.Omega.{arith}
 use borrow.Author.Needs.{needs}
-use Rattle.files.specs.Files.{headLength, fileBytes}
-use Rattle.files.proofs.ArraysOfKinds.{at-most-four}
+use Rattle.heads.specs.Heads.{headLength}
+use Rattle.files.specs.Files.{fileBytes}
+use Rattle.heads.proofs.ArraysOfKinds.{at-most-four}
 use Rattle.files.proofs.Bounds.{four-arrays}
 use Rattle.files.proofs.file_bytes.Statement.{statement}
 use Rattle.files.proofs.file_bytes.Tie as tie

@@ -4,7 +4,7 @@ use Prim.Native.Nat.{ℕ, _*_, _^_, _≤_}
 use native.Mathlib.Omega.{arith}
 use borrow.Author.Needs.{needs}
 use Rattle.files.specs.Files.{fileNumbers}
-use Rattle.files.proofs.ArraysOfKinds.{at-most-four}
+use Rattle.heads.proofs.ArraysOfKinds.{at-most-four}
 use Rattle.files.proofs.Bounds.{four-arrays}
 use Rattle.files.proofs.file_numbers.Statement.{statement}
 use Rattle.files.proofs.file_numbers.Tie as tie

@@ -7,12 +7,13 @@ use lib.IntN.{ℤ}
 use lib.ListN.{length}
 use Rattle.refusals.specs.Outcomes.{Check, refused, outcome, Passes}
 use Rattle.refusals.specs.Numbers.{numberOf}
-use Rattle.refusals.proofs.Checks.{passed-all, refused-first, done-parts, done-all, refused-plain}
+use Rattle.refusals.proofs.Checks.{passed-all, refused-first, done-parts, done-all, refused-plain, gives-same}
 use Rattle.refusals.proofs.Numbers.{number-positive}
 use Rattle.parameters.specs.Sets.{ParameterSet, setOf, parameterChecks, made}
-use Rattle.files.specs.Files.{headOf, numbersOf}
-use Rattle.files.specs.Calls.{headChecks, readingHead, storedChecks, readingChecks, reading}
-use Rattle.files.proofs.Given.{gives-same}
+use Rattle.heads.specs.Heads.{headOf}
+use Rattle.files.specs.Files.{numbersOf}
+use Rattle.heads.specs.Calls.{headChecks, readingHead}
+use Rattle.files.specs.Calls.{storedChecks, readingChecks, reading}
 use Rattle.files.proofs.read.Statement.{statement}
 use Rattle.files.proofs.read.Tie as tie
 

@@ -8,11 +8,11 @@ use denote.Ref.{now}
 use lib.ListN.{length}
 use Rattle.refusals.specs.Outcomes.{Check, _if_, outcome, Passes}
 use Rattle.refusals.specs.Numbers.{answered}
-use Rattle.refusals.proofs.Checks.{holds, call-passed, call-refused, passed-all, refused-first}
+use Rattle.refusals.proofs.Checks.{holds, call-passed, call-refused, passed-all, refused-first, gives-same}
 use Rattle.parameters.specs.Sets.{ParameterSet, setOf, parameterChecks}
-use Rattle.files.specs.Files.{knownKind, fileOf}
+use Rattle.heads.specs.Kinds.{knownKind}
+use Rattle.files.specs.Files.{fileOf}
 use Rattle.files.specs.Calls.{givenChecks, writingChecks, writing}
-use Rattle.files.proofs.Given.{gives-same}
 use Rattle.files.proofs.write.Statement.{statement}
 use Rattle.files.proofs.write.Tie as tie
 

@@ -5,7 +5,7 @@ use Prim.Native.Nat.{ℕ}
 use borrow.Author.Needs.{needs}
 use denote.Ref.{now}
 use lib.ListN.{length, drop}
-use Rattle.files.proofs.Given.{gives-same}
+use Rattle.refusals.proofs.Checks.{gives-same}
 use Rattle.opening.specs.Program.{openingLine, lineWriting, lineLength}
 use Rattle.opening.proofs.LineRoom.{room-wrong, room-right}
 use Rattle.opening.proofs.open_files.Statement.{statement}

@@ -4,7 +4,7 @@ use mathlib.Core.List.{List, _++_}
 use Prim.Native.Nat.{ℕ}
 use borrow.Author.Needs.{needs}
 use lib.ListN.{length, drop}
-use Rattle.opening.specs.Lines.{lineOf}
+use Rattle.lines.specs.Lines.{lineOf}
 use Rattle.opening.specs.Program.{openingLine}
 use Rattle.opening.proofs.write_line_in.Statement.{statement}
 use Rattle.opening.proofs.write_line_in.Tie as tie

@@ -1,15 +1,16 @@
 -- `write_opened` meets its contract.
 use mathlib.Core.Path.{_≡_, sym, _∙_, ap, subst}
 use mathlib.Core.List.{List, _++_}
-use Prim.Native.Nat.{ℕ, _≤_, _<_}
+use Prim.Native.Nat.{ℕ, _≤_}
 use native.Mathlib.Omega.{arith}
 use native.Mathlib.Nat.{min-le-right}
 use borrow.Author.Needs.{needs}
 use lib.ListN.{length, take, drop}
 use lib.Seq.{length-take-le}
 use Rattle.refusals.specs.Outcomes.{refused, done}
-use Rattle.refusals.proofs.Numbers.{two-digits}
-use Rattle.opening.specs.Lines.{lineOf}
+use Rattle.refusals.specs.Numbers.{numberOf}
+use Rattle.lines.specs.Lines.{lineOf, Writes}
+use Rattle.lines.proofs.Written.{message-length, refusal-length, written}
 use Rattle.opening.specs.Steps.{openedIs}
 use Rattle.opening.specs.declared.Opened.{Opened}
 use Rattle.opening.proofs.Parts.{end-taken}
@@ -28,6 +29,12 @@ short c =
 part : (c : tie.After-least) → let s = c .before .before .before .before .before .before in length (take (c .least .result) (s .args .message .now)) ≡ c .least .result
 part c = length-take-le (c .least .result) (c .before .before .before .before .before .before .args .message .now) (short c)
 
+-- the line that is written, of what was opened
+as-line : (l l′ old : List ℕ) {r : ℕ} {new : List ℕ} → l ≡ l′ → length l ≤ length old → Writes l r old new → (r ≡ length l′) × (new ≡ l′ ++ drop r old)
+as-line l l′ old {r} e h g =
+    let w = written l old h g in
+    (w .0 ∙ ap length e, w .1 ∙ ap (λ (k : ℕ). l ++ drop k old) (sym (w .0)) ∙ ap (λ (x : List ℕ). x ++ drop r old) e)
+
 pub write-opened-spec : {M : Type 1} → statement M
 write-opened-spec =
     tie.close
@@ -35,15 +42,9 @@ write-opened-spec =
     (λ c. search needs)
     (λ c κs. search needs)
     (λ c. sym (part (c .before)))
-    (λ c κs.
-    let l = c .before .before in
-    let s = l .before .before .before .before .before .before in
-    (omega (arith, part l, short l, s .pre .0), s .pre .1))
+    (λ c κs. search needs)
     (λ c. search needs)
     (λ c κs. search needs)
-    (λ c κs.
-    let s = c .before .before .before .before .before .before .before in
-    (subst (λ (n : ℕ). n < 100) (sym (c .before .number .ensures)) (two-digits (c .before .before .before .opened2 .given .0 .0)), s .pre .1))
     (λ c. search needs)
     (λ c.
     let w = c .before .before in
@@ -51,13 +52,13 @@ write-opened-spec =
     let s = l .before .before .before .before .before .before in
     let o = l .before .before .opened .given in
     let m = s .args .message .now in
-    let e : lineOf (done (take (l .least .result) m)) ≡ line s (s .args .opened) = ap (λ (x : List ℕ). lineOf (done x)) (ap (λ (k : ℕ). take k m) (l .least .ensures) ∙ end-taken (o .0 .0) m) ∙ sym (ap (line s) (o .1)) in
-    (w .write-message .ensures .0 ∙ ap length e, w .write-message .ensures .1 ∙ ap (λ (x : List ℕ). x ++ drop (w .write-message .result) (s .args .line .now)) e))
+    let m′ = take (l .least .result) m in
+    let e : lineOf (done m′) ≡ line s (s .args .opened) = ap (λ (x : List ℕ). lineOf (done x)) (ap (λ (k : ℕ). take k m) (l .least .ensures) ∙ end-taken (o .0 .0) m) ∙ sym (ap (line s) (o .1)) in
+    as-line (lineOf (done m′)) (line s (s .args .opened)) (s .args .line .now) e (omega (arith, message-length m′, part l, short l, s .pre .0, s .pre .1)) (w .write-message .ensures))
     (λ c. search needs)
     (λ c.
     let w = c .before .before in
-    let n = w .before .before in
-    let s = n .before .before .before .before .before .before in
-    let o = n .before .before .opened2 .given in
-    let e : lineOf (refused (n .number .result)) ≡ line s (s .args .opened) = ap (λ (x : ℕ). lineOf (refused x)) (n .number .ensures) ∙ sym (ap (line s) (o .1)) in
-    (w .write-refusal .ensures .0 ∙ ap length e, w .write-refusal .ensures .1 ∙ ap (λ (x : List ℕ). x ++ drop (w .write-refusal .result) (s .args .line .now)) e)))
+    let s = w .before .before .before .before .before .before .before in
+    let o = w .before .before .before .opened2 .given in
+    let n = numberOf (o .0 .0) in
+    as-line (lineOf (refused n)) (line s (s .args .opened)) (s .args .line .now) (sym (ap (line s) (o .1))) (omega (arith, refusal-length n, s .pre .1)) (w .write-refusal .ensures)))

@@ -1,5 +1,5 @@
 -- `sets_refusal` meets its contract. The loop's invariant: what is refused is what the checks from array k on refuse.
-use mathlib.Core.Path.{_≡_, sym, _∙_, ap, ap₂}
+use mathlib.Core.Path.{_≡_, sym, _∙_, ap}
 use mathlib.Core.List.{List, [], _∷_}
 use Prim.Native.Nat.{ℕ, _+_, _-_, _*_, _≤_, _<_}
 use native.Mathlib.Omega.{arith}
@@ -10,22 +10,21 @@ use Rattle.refusals.specs.Outcomes.{Check, outcome}
 use Rattle.refusals.specs.Numbers.{answered}
 use Rattle.parameters.specs.Sets.{setOf}
 use Rattle.arrays.specs.declared.ArraySet.the-variants.{ReducedModuloQ}
-use Rattle.arrays.specs.Arrays.{arrayCheck}
-use Rattle.parameters.proofs.AcceptedParameters.{accepted-parameters}
-use Rattle.files.specs.Files.{arraysOf, arrayAt}
+use Rattle.heads.specs.Kinds.{arraysOf}
+use Rattle.files.specs.Files.{arrayAt}
 use Rattle.files.specs.Calls.{setChecks}
-use Rattle.files.proofs.Bounds.{numbers-few, end-of-array}
+use Rattle.files.proofs.Bounds.{end-of-array}
 use Rattle.arrays.proofs.ArrayChecks.{own, own-check}
 use Rattle.files.proofs.SetChecks.{first-array, set-at, from-array, array-passed, array-refused, all-arrays-passed}
 use Rattle.files.proofs.contents.sets_refusal.Statement.{statement}
 use Rattle.files.proofs.contents.sets_refusal.Tie as tie
 
 abbrev Inv-loop : tie.InvT-loop
-Inv-loop kind p numbers n width count k₀ k =
+Inv-loop kind p numbers count k₀ k =
     (k ≤ count) × (outcome (setChecks (setOf p) (arraysOf kind) numbers) (tt {0}) ≡ outcome (from-array (setOf p) (arraysOf kind) numbers k) (tt {0}))
 
 abbrev μ-loop : tie.MeasureT-loop
-μ-loop kind p numbers n width count k₀ k = count - k
+μ-loop kind p numbers count k₀ k = count - k
 
 abbrev After-count : Type 0
 After-count = tie.After-array-count Inv-loop μ-loop
@@ -37,25 +36,17 @@ within c k h = omega (arith, c .array-count .ensures)
 end : (c : After-count) (k : ℕ) → k < c .array-count .result → 2 * c .before .args .p .n * k + 2 * c .before .args .p .n ≤ length (c .before .args .numbers .now)
 end c k h = omega (arith, c .before .pre .1, end-of-array (c .before .args .kind) (c .before .args .p .n) k (within c k h))
 
-end-small : (c : After-count) (k : ℕ) → k < c .array-count .result → 2 * c .before .args .p .n * k + 2 * c .before .args .p .n ≤ 8192
-end-small c k h =
-    omega (arith, end c k h, c .before .pre .1, numbers-few (c .before .args .kind) (c .before .args .p .n) (accepted-parameters (setOf (c .before .args .p)) (c .before .pre .0) .N-small))
-
 -- the check of array k, from what the call answered
-checked : (c : tie.After-check-array Inv-loop μ-loop) → let l = c .before .before .before .before in let s = l .before .before in outcome (own (setOf (s .args .p)) (set-at (setOf (s .args .p)) (arraysOf (s .args .kind)) (s .args .numbers .now) (l .loop .k)) (arrayAt (setOf (s .args .p)) (l .loop .k) (s .args .numbers .now)) ∷ []) (tt {0}) ≡ answered (c .check-array .result)
+checked : (c : tie.After-array-refusal Inv-loop μ-loop) → let l = c .before .before in let s = l .before .before in outcome (own (setOf (s .args .p)) (set-at (setOf (s .args .p)) (arraysOf (s .args .kind)) (s .args .numbers .now) (l .loop .k)) (arrayAt (setOf (s .args .p)) (l .loop .k) (s .args .numbers .now)) ∷ []) (tt {0}) ≡ answered (c .array-refusal .result)
 unfolding arrayAt
 checked c =
-    let l = c .before .before .before .before in
+    let l = c .before .before in
     let s = l .before .before in
-    let P = setOf (s .args .p) in
     let x = s .args .numbers .now in
     let k = l .loop .k in
     let w = 2 * s .args .p .n in
-    let long : length (take w (drop (w * k) x)) ≡ w = length-take-le w (drop (w * k) x) (omega (arith, length-drop (w * k) x, end (l .before) k (c .before .before .before .loop-test .taken))) in
-    let part : take (w * k + w - w * k) (drop (w * k) x) ≡ take w (drop (w * k) x) = ap (λ (n : ℕ). take n (drop (w * k) x)) {x = w * k + w - w * k} {y = w} (omega arith) in
-    sym (own-check P (getD (arraysOf (s .args .kind)) k ReducedModuloQ) (take w (drop (w * k) x)) (s .pre .0) long)
-    ∙ sym (ap₂ (arrayCheck P) (c .before .before .array-set .ensures) part)
-    ∙ sym (c .check-array .ensures)
+    let long : length (take w (drop (w * k) x)) ≡ w = length-take-le w (drop (w * k) x) (omega (arith, length-drop (w * k) x, end (l .before) k (c .before .loop-test .taken))) in
+    sym (own-check (setOf (s .args .p)) (getD (arraysOf (s .args .kind)) k ReducedModuloQ) (take w (drop (w * k) x)) (s .pre .0) long) ∙ sym (c .array-refusal .ensures)
 
 pub sets-refusal-spec : {M : Type 1} → statement M
 sets-refusal-spec =
@@ -63,34 +54,28 @@ sets-refusal-spec =
     (tie.spec
     Inv-loop
     μ-loop
-    (λ c. search needs)
-    (λ c. search needs)
     (λ c κs. search needs)
     (λ c. (omega arith, ap (λ (cs : List Check). outcome cs (tt {0})) (first-array (setOf (c .before .args .p)) (arraysOf (c .before .args .kind)) (c .before .args .numbers .now))))
-    (λ c. omega (arith, end-small (c .before .before) (c .before .loop .k) (c .loop-test .taken)))
-    (λ c. omega (arith, end-small (c .before .before) (c .before .loop .k) (c .loop-test .taken)))
-    (λ c κs. tt)
-    (λ c. omega (arith, end-small (c .before .before .before) (c .before .before .loop .k) (c .before .loop-test .taken)))
-    (λ c. omega arith)
-    (λ c. omega arith)
-    (λ c. end (c .before .before .before) (c .before .before .loop .k) (c .before .loop-test .taken))
-    (λ c κs. tt)
+    (λ c κs.
+    let l = c .before in
+    let s = l .before .before in
+    (within (l .before) (l .loop .k) (c .loop-test .taken), s .pre .1))
     (λ c. search needs)
     (λ c. search needs)
     (λ c.
     let a = c .before .before .before in
-    let l = a .before .before .before .before in
+    let l = a .before .before in
     let s = l .before .before in
     sym
     (l .loop .inv .1
-    ∙ array-refused (setOf (s .args .p)) (arraysOf (s .args .kind)) (s .args .numbers .now) (l .loop .k) _ (within (l .before) (l .loop .k) (a .before .before .before .loop-test .taken)) (checked a ∙ ap answered (c .before .refusal .given .1))))
-    (λ c. omega (arith, c .before .before .before .before .before .loop-test .taken))
-    (λ c. omega (arith, c .before .before .before .before .before .loop-test .taken))
+    ∙ array-refused (setOf (s .args .p)) (arraysOf (s .args .kind)) (s .args .numbers .now) (l .loop .k) _ (within (l .before) (l .loop .k) (a .before .loop-test .taken)) (checked a ∙ ap answered (c .before .refusal .given .1))))
+    (λ c. omega (arith, c .before .before .before .loop-test .taken))
+    (λ c. omega (arith, c .before .before .before .loop-test .taken))
     (λ c.
     let a = c .before .before in
-    let l = a .before .before .before .before in
+    let l = a .before .before in
     let s = l .before .before in
-    let h = a .before .before .before .loop-test .taken in
+    let h = a .before .loop-test .taken in
     (omega (arith, h), l .loop .inv .1 ∙ array-passed (setOf (s .args .p)) (arraysOf (s .args .kind)) (s .args .numbers .now) (l .loop .k) (within (l .before) (l .loop .k) h) (checked a ∙ ap answered (c .enum-told .given .1))))
     (λ c.
     let l = c .before in

@@ -8,11 +8,11 @@ use denote.Ref.{now}
 use lib.ListN.{length, length-drop}
 use Rattle.refusals.specs.Outcomes.{Check, outcome, Passes}
 use Rattle.refusals.specs.Numbers.{answered}
-use Rattle.refusals.proofs.Checks.{done-with, refused-with}
+use Rattle.refusals.proofs.Checks.{done-with, refused-with, gives-same}
 use Rattle.parameters.specs.Sets.{setOf}
-use Rattle.files.specs.Files.{headLength, numbersFrom, numbersOf}
+use Rattle.heads.specs.Heads.{headLength}
+use Rattle.files.specs.Files.{numbersFrom, numbersOf}
 use Rattle.files.specs.Calls.{storedChecks}
-use Rattle.files.proofs.Given.{gives-same}
 use Rattle.files.proofs.Lists.{rest-taken}
 use Rattle.files.proofs.Passed.{contents-passed, file-bytes}
 use Rattle.files.proofs.reading.read_content.Statement.{statement}

@@ -10,7 +10,9 @@ use Rattle.refusals.specs.Outcomes.{outcome}
 use Rattle.parameters.specs.Sets.{setOf}
 use Rattle.parameters.proofs.AcceptedParameters.{accepted-parameters}
 use Rattle.arrays.proofs.Sizes.{zeros-part}
-use Rattle.files.specs.Files.{arraysOf, headLength, fileNumbers, numbersFrom}
+use Rattle.heads.specs.Kinds.{arraysOf}
+use Rattle.heads.specs.Heads.{headLength}
+use Rattle.files.specs.Files.{fileNumbers, numbersFrom}
 use Rattle.files.specs.Calls.{setChecks}
 use Rattle.files.proofs.Lists.{rest-taken}
 use Rattle.files.proofs.Passed.{lengths-are, lengths-passed, lengths-refused, file-bytes}

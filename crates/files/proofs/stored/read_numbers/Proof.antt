@@ -9,7 +9,7 @@ use lib.Seq.{ext-getD}
 use Rattle.arrays.proofs.Changing.{Changed, changed-none, set-next}
 use Rattle.files.specs.Files.{numbersFrom}
 use Rattle.files.proofs.Lists.{numbers-at, numbers-length}
-use Rattle.files.proofs.Handed.{read-32}
+use Rattle.heads.proofs.Handed.{read-32}
 use Rattle.files.proofs.stored.read_numbers.Statement.{statement}
 use Rattle.files.proofs.stored.read_numbers.Tie as tie
 
@@ -35,17 +35,22 @@ read-numbers-spec =
     μ-loop
     (λ c. (omega arith, changed-none))
     (λ c. omega (arith, c .loop-test .taken, c .before .loop .inv .1 .long))
-    (λ c κs. omega (arith, c .loop-test .taken, c .before .loop .inv .1 .long))
-    (λ c. omega (arith, c .before .loop-test .taken))
-    (λ c. c .before .loop-test .taken)
-    (λ c. omega (arith, c .before .loop-test .taken))
     (λ c. omega (arith, c .before .loop-test .taken, c .before .before .loop .inv .1 .long))
+    (λ c. omega (arith, c .before .loop-test .taken, c .before .before .loop .inv .1 .long))
+    (λ c. omega (arith, c .before .loop-test .taken, c .before .before .loop .inv .1 .long))
+    (λ c. omega (arith, c .before .before .loop-test .taken, c .before .before .before .loop .inv .1 .long))
+    (λ c κs. tt)
+    (λ c. omega (arith, c .before .before .before .loop-test .taken))
+    (λ c. c .before .before .before .loop-test .taken)
+    (λ c. omega (arith, c .before .before .before .loop-test .taken))
+    (λ c. omega (arith, c .before .before .before .loop-test .taken, c .before .before .before .before .loop .inv .1 .long))
     (λ c.
-    let l = c .before .before in
+    let i = c .before .before .before in
+    let l = i .before in
     let s = l .before .before in
-    let h = c .before .loop-test .taken in (
+    let h = i .loop-test .taken in (
       omega (arith, h, l .loop .inv .1 .long),
-      set-next (pos 0) (l .loop .inv .1) h (read-32 (c .signed-at .result) (c .signed-at .ensures .1) ∙ c .signed-at .ensures .0 ∙ sym (numbers-at (s .args .bytes .now) (l .loop .k) (omega (arith, h, l .loop .inv .1 .long)))),
+      set-next (pos 0) (l .loop .inv .1) h (read-32 (c .signed .result) (c .signed .ensures .1) ∙ c .signed .ensures .0 ∙ sym (numbers-at (s .args .bytes .now) (l .loop .k) (omega (arith, h, l .loop .inv .1 .long)))),
     ))
     (λ c. c .before .loop .inv .1 .long)
     (λ c.

@@ -9,12 +9,15 @@ use lib.Dec.{lit≤}
 use lib.IntN.{ℤ, pos, natAbs}
 use lib.ListN.{length, getD, set, take, length-set, drop-of-length-le}
 use lib.Seq.{sets, sets-eq, length-sets, length-take-le, take-all}
-use mir.Syntax.{w32}
+use mir.Syntax.{w16, w32}
 use mir.Val.{toZ, ofZ}
-use Rattle.files.specs.Files.{bytes16, bits16, bytesOf}
-use Rattle.files.proofs.Handed.{read-32}
+use mir.Facts.{toZ-ofZ}
+use Rattle.heads.specs.Heads.{bytes16, bits16}
+use Rattle.files.specs.Files.{bytesOf}
+use Rattle.heads.proofs.Handed.{read-32}
+use Rattle.heads.proofs.Numbers.{Fits16, fits-small}
 use Rattle.files.proofs.Lists.{bytes-length}
-use Rattle.files.proofs.Stores.{go-on}
+use Rattle.integers.proofs.Stores.{go-on}
 use Rattle.files.proofs.stored.write_numbers.Statement.{statement}
 use Rattle.files.proofs.stored.write_numbers.Tie as tie
 
@@ -48,8 +51,11 @@ element c = getD (c .before .before .before .args .numbers .now) (c .before .loo
 small : (c : tie.In-loop Inv-loop μ-loop) → natAbs (element c) ≤ 8191
 small c = c .before .before .before .pre .1 (c .before .loop .i)
 
-element-read : (c : tie.In-loop Inv-loop μ-loop) → toZ w32 (ofZ w32 (element c)) ≡ element c
-element-read c = read-32 (element c) (le-trans (small c) (lit≤ tt))
+wide : (c : tie.In-loop Inv-loop μ-loop) → toZ w32 (ofZ w32 (element c)) ≡ element c
+wide c = read-32 (element c) (le-trans (small c) (lit≤ tt))
+
+element-read : (c : tie.In-loop Inv-loop μ-loop) → toZ w16 (ofZ w16 (toZ w32 (ofZ w32 (element c)))) ≡ element c
+element-read c = ap (λ (z : ℤ). toZ w16 (ofZ w16 z)) (wide c) ∙ toZ-ofZ (fits-small (element c) (small c))
 
 -- all numbers are written
 ended : (l : List ℤ) (start bytes : List ℕ) (i : ℕ) → length start ≡ 2 * length l → length l ≤ i → bytes ≡ sets start 0 (bytesOf (take i l)) → bytes ≡ bytesOf l
@@ -70,7 +76,8 @@ write-numbers-spec =
     (λ c. (omega arith, refl))
     (λ c. omega (arith, c .loop-test .taken))
     (λ c. c .loop-test .taken)
-    (λ c κs. subst (λ (z : ℤ). natAbs z ≤ 8191) (sym (element-read (c .before))) (small (c .before)))
+    (λ c. subst Fits16 (sym (wide (c .before))) (fits-small (element (c .before)) (small (c .before))))
+    (λ c κs. tt)
     (λ c. omega (arith, c .bits-of .ensures .1))
     (λ c. omega (arith, c .before .before .loop-test .taken))
     (λ c. omega (arith, c .before .before .loop-test .taken, long (c .before .before .before)))

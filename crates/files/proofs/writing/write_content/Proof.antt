@@ -8,11 +8,10 @@ use denote.Ref.{now}
 use lib.ListN.{length}
 use Rattle.refusals.specs.Outcomes.{Check, outcome, Passes}
 use Rattle.refusals.specs.Numbers.{answered}
-use Rattle.refusals.proofs.Checks.{done-with, refused-with}
+use Rattle.refusals.proofs.Checks.{done-with, refused-with, gives-same}
 use Rattle.parameters.specs.Sets.{setOf}
 use Rattle.files.specs.Files.{fileOf}
 use Rattle.files.specs.Calls.{givenChecks}
-use Rattle.files.proofs.Given.{gives-same}
 use Rattle.files.proofs.Passed.{contents-passed, contents-small, file-bytes}
 use Rattle.files.proofs.writing.write_content.Statement.{statement}
 use Rattle.files.proofs.writing.write_content.Tie as tie

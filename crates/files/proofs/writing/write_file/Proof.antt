@@ -7,7 +7,9 @@ use borrow.Author.Needs.{needs}
 use lib.ListN.{length, take, drop, length-drop, drop-of-length-le}
 use lib.Seq.{take-at}
 use Rattle.parameters.specs.Sets.{setOf}
-use Rattle.files.specs.Files.{headLength, bytes16, headBytes, fileOf}
+use Rattle.heads.specs.Heads.{headLength, bytes16, headBytes}
+use Rattle.files.specs.Files.{fileOf}
+use Rattle.heads.proofs.HeadChecks.{head-written}
 use Rattle.files.proofs.Lists.{rest-taken}
 use Rattle.files.proofs.writing.write_file.Statement.{statement}
 use Rattle.files.proofs.writing.write_file.Tie as tie
@@ -23,7 +25,7 @@ unfolding fileOf headBytes bytes16
 write-file-spec =
     tie.close
     (tie.spec
-    (λ c κs. (c .before .before .pre .0 .0, c .before .before .pre .0 .1, omega (arith, c .before .before .pre .1 .0)))
+    (λ c κs. search needs)
     (λ c. search needs)
     (λ c. search needs)
     (λ c. search needs)
@@ -37,5 +39,5 @@ write-file-spec =
     let h = w .before .before .before .before in
     let s = h .before .before .before in
     let head = headBytes (s .args .kind) (setOf (s .args .p)) in
-    put-rest head (drop headLength (s .args .file .now)) (h .write-head .last .1 .1 .0) (w .write-numbers .last .1 .0) refl (h .write-head .ensures)
+    put-rest head (drop headLength (s .args .file .now)) (h .write-head .last .1 .1 .0) (w .write-numbers .last .1 .0) refl (head-written (s .args .kind) (setOf (s .args .p)) (s .args .file .now) (s .pre .0 .0) (s .pre .0 .1) (omega (arith, s .pre .1 .0)) (h .write-head .ensures))
     ∙ ap (head ++_) (w .write-numbers .ensures)))

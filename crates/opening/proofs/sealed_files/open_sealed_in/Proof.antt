@@ -1,29 +1,29 @@
 -- `open_sealed_in` meets its contract.
-use mathlib.Core.Path.{_≡_, refl, sym, _∙_}
+use mathlib.Core.Path.{_≡_, refl, sym, _∙_, ap}
 use mathlib.Core.List.{List, _++_}
-use Prim.Native.Nat.{ℕ, _+_, _-_, _*_, _≤_}
+use Prim.Native.Nat.{ℕ, _*_, _≤_}
 use native.Mathlib.Omega.{arith}
 use native.Mathlib.Nat.{mul-le-mul-left}
 use borrow.Author.Needs.{needs}
-use borrow.Rule.Slice.PartMut.{same-len-mid}
 use lib.Dec.{T, lit≤}
 use lib.IntN.{ℤ}
-use lib.ListN.{length, take, drop, length-drop}
+use lib.ListN.{length, take, drop, length-drop, take-append-drop}
 use lib.Seq.{length-take-le}
 use Rattle.refusals.specs.Outcomes.{outcome, Passes}
 use Rattle.refusals.proofs.Checks.{passed-all, refused-first, done-holds}
 use Rattle.parameters.specs.Sets.{ParameterSet, setOf}
 use Rattle.parameters.proofs.AcceptedParameters.{accepted-parameters}
 use Rattle.polynomials.specs.Polynomials.{coefficient, reducedQ}
-use Rattle.files.specs.Files.{arraysOf, fileNumbers, arrayAt}
+use Rattle.heads.specs.Kinds.{arraysOf}
+use Rattle.files.specs.Files.{fileNumbers, arrayAt}
 use Rattle.files.specs.Calls.{setChecks}
-use Rattle.files.proofs.ArraysOfKinds.{sealed-arrays}
+use Rattle.heads.proofs.ArraysOfKinds.{sealed-arrays}
 use Rattle.opening.specs.Program.{fileChecks, pairChecks, messageOf}
 use Rattle.opening.specs.Steps.{openingSealed, keyIn}
 use Rattle.opening.proofs.JoinedArrays.{last-check}
-use Rattle.opening.proofs.KeptArrays.{array-kept, sealed-kept}
+use Rattle.opening.proofs.KeptArrays.{array-kept}
 use Rattle.opening.proofs.ReadFiles.{Read, N-small, file-read, file-refused}
-use Rattle.opening.proofs.ReadKeys.{pair-is}
+use Rattle.opening.proofs.ReadKeys.{part-is, pair-is}
 use Rattle.opening.proofs.sealed_files.open_sealed_in.Statement.{statement}
 use Rattle.opening.proofs.sealed_files.open_sealed_in.Tie as tie
 
@@ -41,57 +41,51 @@ abbrev from : tie.Start → ℕ
 from s = 4 * s .args .p .n
 
 abbrev count : tie.Start → ℕ
-count s = from s + 2 * s .args .sealed .n - from s
+count s = 2 * s .args .sealed .n
 
 abbrev part : tie.Start → List ℤ
 part s = take (count s) (drop (from s) (s .args .numbers .now))
 
-part-long : (s : tie.Start) → length (part s) ≡ 2 * s .args .sealed .n
-part-long s = length-take-le (count s) (drop (from s) (s .args .numbers .now)) (omega (arith, few s, few-sealed s, length-drop (from s) (s .args .numbers .now))) ∙ omega arith
-
 room : (s : tie.Start) → length (part s) ≡ fileNumbers 3 (s .args .sealed .n)
 unfolding fileNumbers arraysOf
-room s = part-long s ∙ omega arith
+room s = length-take-le (count s) (drop (from s) (s .args .numbers .now)) (omega (arith, few s, few-sealed s, length-drop (from s) (s .args .numbers .now))) ∙ omega arith
 
--- the sealed array, and the numbers with it
-abbrev new : tie.After-read → List ℤ
-new c = c .read .last .1 .1 .0
+-- the numbers with the sealed array, and that array
+abbrev held : tie.After-read-sealed → List ℤ
+held c = c .read-sealed .last .1 .1 .1 .0
 
-new-long : (c : tie.After-read) → length (new c) ≡ 2 * c .before .before .before .before .args .sealed .n
-new-long c = omega (arith, part-long (c .before .before .before .before))
+held-long : (c : tie.After-read-sealed) → length (held c) ≡ 8192
+held-long c = omega (arith, c .before .before .before .before .pre .0 .1 .0)
 
-abbrev rest : tie.After-read → List ℤ
-rest c = let s = c .before .before .before .before in new c ++ drop (count s) (drop (from s) (s .args .numbers .now))
+abbrev new : tie.After-read-sealed → List ℤ
+new c = let s = c .before .before .before .before in take (count s) (drop (from s) (held c))
 
-abbrev held : tie.After-read → List ℤ
-held c = let s = c .before .before .before .before in take (from s) (s .args .numbers .now) ++ rest c
-
-held-long : (c : tie.After-read) → length (held c) ≡ 8192
-held-long c =
+new-long : (c : tie.After-read-sealed) → length (new c) ≡ 2 * c .before .before .before .before .args .sealed .n
+new-long c =
     let s = c .before .before .before .before in
-    same-len-mid (from s) (count s) (s .args .numbers .now) (new c) (new-long c ∙ sym (part-long s)) ∙ s .pre .0 .1 .0
+    length-take-le (count s) (drop (from s) (held c)) (omega (arith, few s, few-sealed s, held-long c, length-drop (from s) (held c)))
 
 private-numbers : (N : ℕ) → fileNumbers 2 N ≡ 8 * N
 unfolding fileNumbers arraysOf
 private-numbers N = omega arith
 
 -- f and F2 are as they were
-kept : (c : tie.After-read) (k : ℕ) → k ≤ 1 → let s = c .before .before .before .before in arrayAt (P s) k (held c) ≡ arrayAt (P s) k (keyIn (P s) (s .args .numbers .now))
+kept : (c : tie.After-read-sealed) (k : ℕ) → k ≤ 1 → let s = c .before .before .before .before in arrayAt (P s) k (held c) ≡ arrayAt (P s) k (keyIn (P s) (s .args .numbers .now))
 kept c k h =
     let s = c .before .before .before .before in
-    array-kept (P s) k (from s) (s .args .numbers .now) (rest c) (omega (arith, mul-le-mul-left (2 * s .args .p .n) h)) (omega (arith, private-numbers (s .args .p .n))) (omega (arith, few s, private-numbers (s .args .p .n)))
+    let rest = drop (from s) (held c) in
+    ap (arrayAt (P s) k) (sym (take-append-drop (from s) (held c)) ∙ ap (λ (x : List ℤ). x ++ rest) (c .read-sealed .ensures .0))
+    ∙ array-kept (P s) k (from s) (s .args .numbers .now) rest (omega (arith, mul-le-mul-left (2 * s .args .p .n) h)) (omega (arith, private-numbers (s .args .p .n))) (omega (arith, few s, private-numbers (s .args .p .n)))
 
-sealed-is : (c : tie.After-read) → let s = c .before .before .before .before in s .args .p .n ≡ s .args .sealed .n → arrayAt (P s) 2 (held c) ≡ new c
-sealed-is c e =
-    let s = c .before .before .before .before in
-    sealed-kept (P s) (s .args .numbers .now) (new c) (drop (count s) (drop (from s) (s .args .numbers .now))) (omega (arith, few s)) (omega (arith, new-long c, e))
+sealed-is : (c : tie.After-read-sealed) → let s = c .before .before .before .before in s .args .p .n ≡ s .args .sealed .n → arrayAt (P s) 2 (held c) ≡ new c
+sealed-is c e = let s = c .before .before .before .before in sym (part-is (P s) 2 (held c) (count s) (from s) (omega (arith, e)) (omega arith))
 
 -- the sealed file is read
-sealed-read : (c : tie.After-enum-told) → let s = c .before .before .before .before .before .before .before in Read 3 (setOf (s .args .sealed)) (s .args .file .now) (c .before .before .before .read .last .1 .1 .0)
+sealed-read : (c : tie.After-enum-told) → let s = c .before .before .before .before .before .before .before in Read 3 (setOf (s .args .sealed)) (s .args .file .now) (new (c .before .before .before))
 sealed-read c =
-    let s = c .before .before .before .before .before .before .before in
     let r = c .before .before .before in
-    file-read 3 (s .args .file .now) (setOf (s .args .sealed)) (s .pre .1 .1) (part s) _ (r .read .ensures .0) _ (c .enum-told .given .1) (r .read .ensures .1)
+    let s = r .before .before .before .before in
+    file-read 3 (s .args .file .now) (setOf (s .args .sealed)) (s .pre .1 .1) (part s) _ (r .read-sealed .ensures .1 .0) _ (c .enum-told .given .1) (r .read-sealed .ensures .1 .1)
 
 -- its one array is of remainders
 reduced : (p : ParameterSet) (e : List ℤ) → length e ≡ 2 * p .N → Passes (setChecks p (arraysOf 3) e) → T (reducedQ (p .N) (p .q) (coefficient e))
@@ -106,16 +100,7 @@ pub open-sealed-in-spec : {M : Type 1} → statement M
 open-sealed-in-spec =
     tie.close
     (tie.spec
-    (λ c. search needs)
-    (λ c. search needs)
-    (λ c. search needs)
-    (λ c. search needs)
-    (λ c. omega (arith, few (c .before .before), few-sealed (c .before .before)))
-    (λ c. omega (arith, few (c .before .before)))
-    (λ c. search needs)
-    (λ c. search needs)
-    (λ c. omega (arith, few (c .before .before), few-sealed (c .before .before)))
-    (λ c κs. search needs)
+    (λ c κs. let s = c .before .before .before in (few s, few-sealed s, s .pre .0 .1 .0))
     (λ c. search needs)
     (λ c κs.
     let r = c .before .before .before .before .before in
@@ -139,4 +124,4 @@ open-sealed-in-spec =
     let r = c .before .before .before .before in
     let s = r .before .before .before .before in
     let w = c .before .refusal .given in
-    sym (refused-first (fileChecks 3 (s .args .file .now)) _ _ _ (file-refused 3 (s .args .file .now) (setOf (s .args .sealed)) (s .pre .1 .1) (part s) _ (r .read .ensures .0) (room s) (w .0 .0) (w .1)))))
+    sym (refused-first (fileChecks 3 (s .args .file .now)) _ _ _ (file-refused 3 (s .args .file .now) (setOf (s .args .sealed)) (s .pre .1 .1) (part s) _ (r .read-sealed .ensures .1 .0) (room s) (w .0 .0) (w .1)))))

@@ -47,9 +47,12 @@ add-rest-spec =
     let h = s .pre .1 in
     let taken = r .before .before .before .loop-test .taken in
     let m : ℕ = l .loop .m - s .args .from in
-    let e : s .args .from + m ≡ l .loop .m = omega (arith, l .loop .inv .0) in
-    (omega (arith, l .loop .inv .0), omega (arith, taken), one-summed (s .args .n) (s .args .twice .now) (h .twice-below) (place s) m (l .loop .m + 1 - s .args .from) (s .args .sums .now) (l .loop .sums) (r .add-one .last .0) (h .long) (omega (arith, l .loop .inv .0)) (l .loop .inv .2)
-    (subst (λ (a : ℕ). Added (λ k. getD (s .args .twice .now) (a + k) (pos 0)) (l .loop .sums) (r .add-one .last .0)) (r .before .before .start .ensures ∙ ap (λ (k : ℕ). 2 * (s .args .n - getD (s .args .places .now) k 0)) (sym e)) (r .add-one .ensures))))
+    let e : s .args .from + m ≡ l .loop .m = omega (arith, l .loop .inv .0) in (
+      omega (arith, l .loop .inv .0),
+      omega (arith, taken),
+      one-summed (s .args .n) (s .args .twice .now) (h .twice-below) (place s) m (l .loop .m + 1 - s .args .from) (s .args .sums .now) (l .loop .sums) (r .add-one .last .0) (h .long) (omega (arith, l .loop .inv .0)) (l .loop .inv .2)
+          (subst (λ (a : ℕ). Added (λ k. getD (s .args .twice .now) (a + k) (pos 0)) (l .loop .sums) (r .add-one .last .0)) (r .before .before .start .ensures ∙ ap (λ (k : ℕ). 2 * (s .args .n - getD (s .args .places .now) k 0)) (sym e)) (r .add-one .ensures)),
+    ))
     (λ c. c .before .loop .inv .2 .long)
     (λ c.
     let l = c .before in

@@ -44,17 +44,19 @@ add-units-spec =
     let l = r .before .before .before in
     let s = l .before .before in
     let h = l .loop .inv .2 in
-    let k = turned-below (s .args .n) (grown (6 - l .loop .k)) (l .loop .sums) (r .turn .ensures) (h .below) in
-    (s .pre .0, record {
-      N-small = s .pre .3 .N-small;
-      long = k .0;
-      twice-long = s .pre .3 .twice-long;
-      few = omega arith;
-      places-long = omega (arith, s .pre .3 .places-long, l .loop .inv .1);
-      below = λ m p. absurd (omega arith);
-      sums-below = λ i. omega (arith, k .1 i, still-small (6 - l .loop .k) (omega (arith, r .before .before .loop-test .taken)));
-      twice-below = s .pre .3 .twice-below;
-    }))
+    let k = turned-below (s .args .n) (grown (6 - l .loop .k)) (l .loop .sums) (r .turn .ensures) (h .below) in (
+      s .pre .0,
+      record {
+        N-small = s .pre .3 .N-small;
+        long = k .0;
+        twice-long = s .pre .3 .twice-long;
+        few = omega arith;
+        places-long = omega (arith, s .pre .3 .places-long, l .loop .inv .1);
+        below = λ m p. absurd (omega arith);
+        sums-below = λ i. omega (arith, k .1 i, still-small (6 - l .loop .k) (omega (arith, r .before .before .loop-test .taken)));
+        twice-below = s .pre .3 .twice-below;
+      },
+    ))
     (λ c. omega (arith, c .before .before .before .before .before .before .before .before .before .before .before .before .loop-test .taken))
     (λ c.
     let a = c .before .before .before in
@@ -66,10 +68,13 @@ add-units-spec =
     let m : ℕ = 6 - l .loop .k in
     let next : suc m ≡ 6 - (l .loop .k - 1) = omega (arith, taken, l .loop .inv .0) in
     let e : value (u .unit .result .a) (u .unit .result .b) ≡ unit (5 - m) = u .unit .ensures ∙ ap unit (mod-eq-of-lt (omega (arith, taken, l .loop .inv .0)) ∙ omega (arith, taken, l .loop .inv .0)) in
-    let x = coefficient (s .args .x .now) in
-    (omega (arith, l .loop .inv .0), a .add-unit .ensures .0 ∙ l .loop .inv .1, subst (λ (k : ℕ). After (s .args .n) x (s .args .twice .now) k (a .add-unit .last .1 .1 .1 .1 .1 .1 .0)) next
-    (after-next (s .args .n) x (s .args .twice .now) m (l .loop .sums) (l .loop .inv .2) (r .turn .ensures)
-    (subst (λ (v : ℤ[ω]). Summed (s .args .n) (runs (s .args .n) (s .args .twice .now) v x) (2 ^ 23) (r .turn .last .0) (a .add-unit .last .1 .1 .1 .1 .1 .1 .0)) (handed u ∙ e) (a .add-unit .ensures .1)))))
+    let x = coefficient (s .args .x .now) in (
+      omega (arith, l .loop .inv .0),
+      a .add-unit .ensures .0 ∙ l .loop .inv .1,
+      subst (λ (k : ℕ). After (s .args .n) x (s .args .twice .now) k (a .add-unit .last .1 .1 .1 .1 .1 .1 .0)) next
+          (after-next (s .args .n) x (s .args .twice .now) m (l .loop .sums) (l .loop .inv .2) (r .turn .ensures)
+          (subst (λ (v : ℤ[ω]). Summed (s .args .n) (runs (s .args .n) (s .args .twice .now) v x) (2 ^ 23) (r .turn .last .0) (a .add-unit .last .1 .1 .1 .1 .1 .1 .0)) (handed u ∙ e) (a .add-unit .ensures .1))),
+    ))
     (λ c. c .before .loop .inv .1)
     (λ c. c .before .loop .inv .2 .long ∙ sym (c .before .before .before .pre .3 .long))
     (λ c.

@@ -1,0 +1,80 @@
+-- The arrays of each kind, by its number.
+use mathlib.Core.Path.{_≡_, refl, sym, _∙_, ap, subst}
+use mathlib.Core.Bool.{Bool, cond}
+use mathlib.Core.List.{List, [], _∷_}
+use mathlib.Core.Logic.{_≢_}
+use Prim.Native.Nat.{ℕ, zero, suc, _≤_, _<_}
+use native.Mathlib.Decide.{ℕ-discrete}
+use borrow.Author.Tests.{ne-eqb}
+use lib.Dec.{T, lit≤, lit<, ltb, eqb}
+use lib.ListN.{length, getD}
+use Rattle.arrays.specs.declared.ArraySet.{ArraySet}
+use Rattle.arrays.specs.declared.ArraySet.the-variants.{F, G, ReducedModulo2, ReducedModuloQ}
+use Rattle.heads.specs.Kinds.{arraysOf, knownKind}
+
+pub public-arrays : (kind : ℕ) → kind ≡ 1 → arraysOf kind ≡ ReducedModuloQ ∷ []
+unfolding arraysOf
+public-arrays kind e = ap arraysOf e
+
+pub private-arrays : (kind : ℕ) → kind ≡ 2 → arraysOf kind ≡ F ∷ ReducedModulo2 ∷ ReducedModuloQ ∷ G ∷ []
+unfolding arraysOf
+private-arrays kind e = ap arraysOf e
+
+pub sealed-arrays : (kind : ℕ) → kind ≡ 3 → arraysOf kind ≡ ReducedModuloQ ∷ []
+unfolding arraysOf
+sealed-arrays kind e = ap arraysOf e
+
+-- what is left after the tests for kinds 1 and 2
+abbrev from-3 : ℕ → List ArraySet
+from-3 kind = cond (eqb kind 3) (ReducedModuloQ ∷ []) []
+
+abbrev from-2 : ℕ → List ArraySet
+from-2 kind = cond (eqb kind 2) (F ∷ ReducedModulo2 ∷ ReducedModuloQ ∷ G ∷ []) (from-3 kind)
+
+pub no-arrays : (kind : ℕ) → kind ≢ 1 → kind ≢ 2 → kind ≢ 3 → arraysOf kind ≡ []
+unfolding arraysOf
+no-arrays kind e1 e2 e3 =
+    ap (λ (t : Bool). cond t (ReducedModuloQ ∷ []) (from-2 kind)) (ne-eqb kind 1 e1)
+    ∙ ap (λ (t : Bool). cond t (F ∷ ReducedModulo2 ∷ ReducedModuloQ ∷ G ∷ []) (from-3 kind)) (ne-eqb kind 2 e2)
+    ∙ ap (λ (t : Bool). cond t (ReducedModuloQ ∷ []) []) (ne-eqb kind 3 e3)
+
+-- what holds of each kind with its arrays, and of every number with none, holds of any number with its arrays
+by-kind : (P : ℕ → List ArraySet → Type 0) → P 1 (arraysOf 1) → P 2 (arraysOf 2) → P 3 (arraysOf 3) → ((kind : ℕ) → P kind []) → (kind : ℕ) → P kind (arraysOf kind)
+by-kind P p1 p2 p3 none kind = go (ℕ-discrete kind 1) (ℕ-discrete kind 2) (ℕ-discrete kind 3)
+  where
+    at : (k : ℕ) → P k (arraysOf k) → kind ≡ k → P kind (arraysOf kind)
+    at k h e = subst (λ (n : ℕ). P n (arraysOf n)) (sym e) h
+
+    go : Dec (kind ≡ 1) → Dec (kind ≡ 2) → Dec (kind ≡ 3) → P kind (arraysOf kind)
+    go (yes e) d f = at 1 p1 e
+    go (no e) (yes d) f = at 2 p2 d
+    go (no e) (no d) (yes f) = at 3 p3 f
+    go (no e) (no d) (no f) = subst (P kind) (sym (no-arrays kind e d f)) (none kind)
+
+-- every kind but the second holds remainders only
+pub remainders-only : (kind k : ℕ) → kind ≢ 2 → getD (arraysOf kind) k ReducedModuloQ ≡ ReducedModuloQ
+unfolding arraysOf
+remainders-only kind k =
+    by-kind (λ n l. n ≢ 2 → getD l k ReducedModuloQ ≡ ReducedModuloQ) (λ _. single k) (λ n. absurd (n refl)) (λ _. single k) (λ n _. refl) kind
+  where
+    single : (k : ℕ) → getD (ReducedModuloQ ∷ []) k ReducedModuloQ ≡ ReducedModuloQ
+    single zero = refl
+    single (suc k) = refl
+
+-- the third array of kind 2 is of remainders, and there is no fifth
+pub private-remainders : (k : ℕ) → k ≢ 0 → k ≢ 1 → k ≢ 3 → getD (F ∷ ReducedModulo2 ∷ ReducedModuloQ ∷ G ∷ []) k ReducedModuloQ ≡ ReducedModuloQ
+private-remainders zero e0 e1 e3 = absurd (e0 refl)
+private-remainders (suc zero) e0 e1 e3 = absurd (e1 refl)
+private-remainders (suc (suc zero)) e0 e1 e3 = refl
+private-remainders (suc (suc (suc zero))) e0 e1 e3 = absurd (e3 refl)
+private-remainders (suc (suc (suc (suc k)))) e0 e1 e3 = refl
+
+-- a file holds at most four arrays
+pub at-most-four : (kind : ℕ) → length (arraysOf kind) ≤ 4
+unfolding arraysOf
+at-most-four = by-kind (λ n l. length l ≤ 4) (lit≤ tt) (lit≤ tt) (lit≤ tt) (λ n. lit≤ tt)
+
+-- a kind fits into its byte of a head
+pub kind-small : (kind : ℕ) → T (knownKind kind) → kind < 256
+unfolding arraysOf
+kind-small = by-kind (λ n l. T (ltb 0 (length l)) → n < 256) (λ _. lit< tt) (λ _. lit< tt) (λ _. lit< tt) (λ n h. absurd h)

@@ -1,0 +1,4 @@
+pub mod ArraysOfKinds
+pub mod Handed
+pub mod HeadChecks
+pub mod Numbers
