@@ -1,4 +1,4 @@
-// One coefficient in C: its remainder modulo q, and its two bits of a message. Both programs in C use these, so that
+// One coefficient in C: its remainder modulo q, and its two bits of a message. All programs in C use these, so that
 // they differ in how they form a product alone.
 #ifndef COEFFICIENTS_H
 #define COEFFICIENTS_H

@@ -17,7 +17,7 @@ use Rattle.polynomials.proofs.Eisenstein.{sum-split}
 use Rattle.arrays.specs.Arrays.{Small}
 use Rattle.arrays.proofs.Changing.{Changed}
 use Rattle.arrays.proofs.Scans.{sum-none, sum-more}
-use Rattle.unit_products.specs.Rotations.{Below, Twice, run, runs, fourAt, Places, Added, Summed}
+use Rattle.unit_products.specs.Rotations.{Below, Twice, run, runs, fourAt, Places, Added, Summed, Rotated}
 
 -- ---- an array that stands twice
 
@@ -92,17 +92,13 @@ module _ (n : ℕ) (t : List ℤ) (small : Below 8191 t) where
   run-added : (j : ℕ) {l l′ : List ℤ} → length l ≡ 2 * n → Added (λ k. getD t (2 * (n - j) + k) (pos 0)) l l′ → Summed n (run n t j) 8191 l l′
   run-added j e h = added-summed {g = λ k. getD t (2 * (n - j) + k) (pos 0)} (λ k. small (2 * (n - j) + k)) e h
 
-  -- the rotations by the first m places of a list
-  abbrev Rotated : (ℕ → ℕ) → ℕ → (old new : List ℤ) → Type 0
-  Rotated f m = Summed n (λ i. sum m (λ k. run n t (f k) i)) (m * 8191)
-
-  pub none-summed : (f : ℕ → ℕ) (m : ℕ) (l : List ℤ) → m ≡ 0 → Rotated f m l l
-  none-summed f m l e = subst (λ (m : ℕ). Rotated f m l l) (sym e) (summed-none l (λ i p. sym (+ω-zero (coefficient l i)) ∙ ap (λ (z : ℤ[ω]). coefficient l i +ω z) (sum-none (λ k. run n t (f k) i))))
+  pub none-summed : (f : ℕ → ℕ) (m : ℕ) (l : List ℤ) → m ≡ 0 → Rotated n t f m l l
+  none-summed f m l e = subst (λ (m : ℕ). Rotated n t f m l l) (sym e) (summed-none l (λ i p. sym (+ω-zero (coefficient l i)) ∙ ap (λ (z : ℤ[ω]). coefficient l i +ω z) (sum-none (λ k. run n t (f k) i))))
 
   -- one more
-  pub one-summed : (f : ℕ → ℕ) (m m′ : ℕ) (l₀ l l′ : List ℤ) → length l₀ ≡ 2 * n → m′ ≡ m + 1 → Rotated f m l₀ l → Added (λ k. getD t (2 * (n - f m) + k) (pos 0)) l l′ → Rotated f m′ l₀ l′
+  pub one-summed : (f : ℕ → ℕ) (m m′ : ℕ) (l₀ l l′ : List ℤ) → length l₀ ≡ 2 * n → m′ ≡ m + 1 → Rotated n t f m l₀ l → Added (λ k. getD t (2 * (n - f m) + k) (pos 0)) l l′ → Rotated n t f m′ l₀ l′
   one-summed f m m′ l₀ l l′ e q h g =
-      subst (λ (k : ℕ). Rotated f k l₀ l′) (sym q)
+      subst (λ (k : ℕ). Rotated n t f k l₀ l′) (sym q)
       (summed-more ((m + 1) * 8191) (λ i. sum (m + 1) (λ k. run n t (f k) i)) h (run-added (f m) (h .long ∙ e) g) (omega arith) (λ i. sym (sum-more (λ k. run n t (f k) i) m)))
 
   -- four more
@@ -114,7 +110,7 @@ module _ (n : ℕ) (t : List ℤ) (small : Below 8191 t) where
       let w : ℤ = getD t d (pos 0) in
       omega (arith, natAbs-+ (x +ℤ y +ℤ z) w, natAbs-+ (x +ℤ y) z, natAbs-+ x y, small a, small b, small c, small d)
 
-  pub four-summed : (f : ℕ → ℕ) (m : ℕ) (l₀ l l′ : List ℤ) → length l₀ ≡ 2 * n → Rotated f m l₀ l → Added (λ k. fourAt t (2 * (n - f m) + k) (2 * (n - f (m + 1)) + k) (2 * (n - f (m + 2)) + k) (2 * (n - f (m + 3)) + k)) l l′ → Rotated f (m + 4) l₀ l′
+  pub four-summed : (f : ℕ → ℕ) (m : ℕ) (l₀ l l′ : List ℤ) → length l₀ ≡ 2 * n → Rotated n t f m l₀ l → Added (λ k. fourAt t (2 * (n - f m) + k) (2 * (n - f (m + 1)) + k) (2 * (n - f (m + 2)) + k) (2 * (n - f (m + 3)) + k)) l l′ → Rotated n t f (m + 4) l₀ l′
   unfolding _+ω_
   four-summed f m l₀ l l′ e h g =
       summed-more ((m + 4) * 8191) (λ i. sum (m + 4) (λ k. run n t (f k) i)) h
@@ -122,7 +118,7 @@ module _ (n : ℕ) (t : List ℤ) (small : Below 8191 t) where
       (omega arith) (λ i. sum-four (λ k. run n t (f k) i) m)
 
   -- all that a unit brings: by fours, and then the rest
-  pub unit-summed : {u : ℤ[ω]} {x : Polynomial} (places : List ℕ) (count r : ℕ) {l₀ l l′ : List ℤ} → n ≤ 1024 → Places n u x places count → r ≤ count → Rotated (λ m. getD places m 0) r l₀ l → Rotated (λ m. getD places (r + m) 0) (count - r) l l′ → Summed n (runs n t u x) (2 ^ 23) l₀ l′
+  pub unit-summed : {u : ℤ[ω]} {x : Polynomial} (places : List ℕ) (count r : ℕ) {l₀ l l′ : List ℤ} → n ≤ 1024 → Places n u x places count → r ≤ count → Rotated n t (λ m. getD places m 0) r l₀ l → Rotated n t (λ m. getD places (r + m) 0) (count - r) l l′ → Summed n (runs n t u x) (2 ^ 23) l₀ l′
   unit-summed {u} {x} places count r q k p h g =
       summed-more (2 ^ 23) (runs n t u x) h g (omega (arith, k .few))
       (λ i.

@@ -68,6 +68,10 @@ pub record Summed (n : ℕ) (x : Polynomial) (b : ℕ) (old new : List ℤ) : Ty
   pub sums : (i : ℕ) → i < n → coefficient new i ≡ coefficient old i +ω x i
   pub grown : (k : ℕ) → natAbs (getD new k (pos 0)) ≤ natAbs (getD old k (pos 0)) + b
 
+-- `new` is `old` with the rotations by the first m places of a list added
+abbrev pub Rotated : ℕ → List ℤ → (ℕ → ℕ) → ℕ → (old new : List ℤ) → Type 0
+Rotated n twice place m = Summed n (λ i. sum m (λ k. run n twice (place k) i)) (m * 8191)
+
 -- sums of 2n numbers at most b in size, what stands twice, and the places by which it is to be rotated
 pub record Summands (n b : ℕ) (sums twice : List ℤ) (places : List ℕ) (count : ℕ) : Type 0 where
   pub N-small : n ≤ 1024

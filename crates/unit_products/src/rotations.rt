@@ -9,7 +9,7 @@ ghost use Rattle.eisenstein.specs.Values.{value, _*ω_};
 ghost use Rattle.polynomials.specs.Polynomials.{coefficient, array, sum, convolution, zerosAndUnits};
 ghost use Rattle.arrays.specs.Arrays.{Small};
 ghost use Rattle.unit_products.specs.Products.{Operands};
-ghost use Rattle.unit_products.specs.Rotations.{ζ, Below, PartsBelow, Zeros, Twice, run, runs, fourAt, Fits, Added, Summed, Summands};
+ghost use Rattle.unit_products.specs.Rotations.{ζ, Below, PartsBelow, Zeros, Twice, run, runs, fourAt, Fits, Added, Summed, Rotated, Summands};
 use crate::places::places_of;
 use eisenstein::Pair;
 
@@ -28,7 +28,7 @@ fn lay_out_twice(y: &[i32], twice: &mut [i16])
     }
 }
 
-// The sum of four numbers of `twice`, formed in 16 bits, of which the compiled loop takes eight at once.
+// The sum of four numbers of `twice`, formed in 16 bits.
 fn sum_of_four(twice: &[i16], a: usize, b: usize, c: usize, d: usize) -> i32
     requires { ⌜ (a < length (now twice)) × (b < length (now twice)) × (c < length (now twice)) × (d < length (now twice)) × (length (now twice) ≤ 4096) ⌝ }
     requires { ⌜ Below 8191 (now twice) ⌝ }
@@ -37,7 +37,7 @@ fn sum_of_four(twice: &[i16], a: usize, b: usize, c: usize, d: usize) -> i32
     (twice[a] + twice[b] + twice[c] + twice[d]) as i32
 }
 
-// Adds four runs of `twice`, from places a, b, c and d on, to the sums.
+// Adds four runs of `twice`, from places a, b, c and d on, to the sums, which are read and written once for the four.
 fn add_four(sums: &mut [i32], twice: &[i16], a: usize, b: usize, c: usize, d: usize)
     requires { ⌜ Fits a (now sums) (now twice) × Fits b (now sums) (now twice) × Fits c (now sums) (now twice) × Fits d (now sums) (now twice) ⌝ }
     requires { ⌜ Below (2 ^ 30) (now sums) × Below 8191 (now twice) × (length (now twice) ≤ 4096) ⌝ }
@@ -73,7 +73,7 @@ fn start(n: usize, places: &[u16], m: usize) -> usize
 // Adds the rotations by the first places, four at a time, and gives how many.
 fn add_fours(sums: &mut [i32], twice: &[i16], n: usize, places: &[u16], count: usize) -> usize
     requires { ⌜ Summands n (2 ^ 29) (now sums) (now twice) (now places) count ⌝ }
-    ensures { λ r. ⌜ (r ≤ count) × Summed n (λ i. sum r (λ m. run n (now (twice .entry)) (getD (now (places .entry)) m 0) i)) (r * 8191) (now (sums .entry)) (now (sums .exit)) ⌝ }
+    ensures { λ r. ⌜ (r ≤ count) × Rotated n (now (twice .entry)) (λ m. getD (now (places .entry)) m 0) r (now (sums .entry)) (now (sums .exit)) ⌝ }
 {
     let mut m = 0;
     while m + 4 <= count {
@@ -90,7 +90,7 @@ fn add_fours(sums: &mut [i32], twice: &[i16], n: usize, places: &[u16], count: u
 // Adds the rotations by the places after them.
 fn add_rest(sums: &mut [i32], twice: &[i16], n: usize, places: &[u16], from: usize, count: usize)
     requires { ⌜ (from ≤ count) × Summands n (2 ^ 29 + from * 8191) (now sums) (now twice) (now places) count ⌝ }
-    ensures { λ _. ⌜ Summed n (λ i. sum (count - from) (λ m. run n (now (twice .entry)) (getD (now (places .entry)) (from + m) 0) i)) ((count - from) * 8191) (now (sums .entry)) (now (sums .exit)) ⌝ }
+    ensures { λ _. ⌜ Rotated n (now (twice .entry)) (λ m. getD (now (places .entry)) (from + m) 0) (count - from) (now (sums .entry)) (now (sums .exit)) ⌝ }
 {
     let mut m = from;
     while m < count {
@@ -111,7 +111,8 @@ fn add_unit(
     sums: &mut [i32],
 )
     requires { ⌜ (length (now x) ≡ 2 * n) × Summands n (2 ^ 29) (now sums) (now twice) (now places) 0 ⌝ }
-    ensures { λ _. ⌜ (length (now (places .exit)) ≡ length (now (places .entry))) × Summed n (runs n (now (twice .entry)) (value ua ub) (coefficient (now (x .entry)))) (2 ^ 23) (now (sums .entry)) (now (sums .exit)) ⌝ }
+    ensures { λ _. ⌜ (length (now (places .exit)) ≡ length (now (places .entry)))
+        × Summed n (runs n (now (twice .entry)) (value ua ub) (coefficient (now (x .entry)))) (2 ^ 23) (now (sums .entry)) (now (sums .exit)) ⌝ }
 {
     let count = places_of(x, n, ua, ub, places);
     let done = add_fours(sums, twice, n, places, count);

@@ -3,14 +3,13 @@ use mathlib.Core.Path.{_≡_, refl}
 use Prim.Native.Nat.{ℕ, _+_, _-_, _*_, _≤_, _<_}
 use native.Mathlib.Omega.{arith}
 use lib.ListN.{length, getD}
-use Rattle.polynomials.specs.Polynomials.{sum}
-use Rattle.unit_products.specs.Rotations.{run, Summed}
+use Rattle.unit_products.specs.Rotations.{Rotated}
 use Rattle.unit_products.proofs.RotatedSums.{none-summed, four-summed}
 use Rattle.unit_products.proofs.rotations.add_fours.Statement.{statement}
 use Rattle.unit_products.proofs.rotations.add_fours.Tie as tie
 
 abbrev Inv-loop : tie.InvT-loop
-Inv-loop sums₀ twice n places count m₀ sums m = (m ≤ count) × Summed n (λ i. sum m (λ k. run n twice (getD places k 0) i)) (m * 8191) sums₀ sums
+Inv-loop sums₀ twice n places count m₀ sums m = (m ≤ count) × Rotated n twice (λ k. getD places k 0) m sums₀ sums
 
 abbrev μ-loop : tie.MeasureT-loop
 μ-loop sums₀ twice n places count m₀ sums m = count - m

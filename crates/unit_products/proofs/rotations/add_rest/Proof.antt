@@ -4,14 +4,13 @@ use Prim.Native.Nat.{ℕ, _+_, _-_, _*_, _≤_}
 use native.Mathlib.Omega.{arith}
 use lib.IntN.{pos}
 use lib.ListN.{getD}
-use Rattle.polynomials.specs.Polynomials.{sum}
-use Rattle.unit_products.specs.Rotations.{run, Added, Summed}
+use Rattle.unit_products.specs.Rotations.{Added, Rotated}
 use Rattle.unit_products.proofs.RotatedSums.{none-summed, one-summed}
 use Rattle.unit_products.proofs.rotations.add_rest.Statement.{statement}
 use Rattle.unit_products.proofs.rotations.add_rest.Tie as tie
 
 abbrev Inv-loop : tie.InvT-loop
-Inv-loop sums₀ twice n places from count m₀ sums m = (from ≤ m) × (m ≤ count) × Summed n (λ i. sum (m - from) (λ k. run n twice (getD places (from + k) 0) i)) ((m - from) * 8191) sums₀ sums
+Inv-loop sums₀ twice n places from count m₀ sums m = (from ≤ m) × (m ≤ count) × Rotated n twice (λ k. getD places (from + k) 0) (m - from) sums₀ sums
 
 abbrev μ-loop : tie.MeasureT-loop
 μ-loop sums₀ twice n places from count m₀ sums m = count - m
@@ -57,4 +56,4 @@ add-rest-spec =
     (λ c.
     let l = c .before in
     let s = l .before .before in
-    subst (λ (m : ℕ). Summed (s .args .n) (λ i. sum (m - s .args .from) (λ k. run (s .args .n) (s .args .twice .now) (place s k) i)) ((m - s .args .from) * 8191) (s .args .sums .now) (l .loop .sums)) (omega (arith, c .loop-test .left, l .loop .inv .1)) (l .loop .inv .2)))
+    subst (λ (m : ℕ). Rotated (s .args .n) (s .args .twice .now) (place s) (m - s .args .from) (s .args .sums .now) (l .loop .sums)) (omega (arith, c .loop-test .left, l .loop .inv .1)) (l .loop .inv .2)))
