@@ -7,7 +7,7 @@ use lib.Dec.{T}
 use lib.IntN.{ℤ}
 use lib.ListN.{length}
 use mir.Facts.{yes-eqb}
-use Rattle.refusals.specs.Outcomes.{Check, _if_, Outcome, done, refused, outcome, Passes}
+use Rattle.refusals.specs.Outcomes.{Check, _if_, done, refused, outcome, Passes}
 use Rattle.refusals.proofs.Checks.{holds-passed, passed-all, refused-first, done-holds}
 use Rattle.parameters.specs.Sets.{ParameterSet, parameterChecks}
 use Rattle.arrays.specs.Arrays.{full, inSet, notInSet, arrayChecks, arrayCheck}

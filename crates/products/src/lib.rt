@@ -1,7 +1,6 @@
 // Products of arrays, reduced: convolution modulo q, and the product with an array of zeros and units modulo q and modulo 2.
 // What an array stands for in the scheme is not this crate's business.
 // No function relies on its caller: each asks of its arrays what its arithmetic needs.
-ghost use mathlib.Core.Path.{_≡_};
 ghost use mathlib.Core.Bool.{_&&_};
 ghost use lib.ListN.{length};
 ghost use Rattle.refusals.specs.Outcomes.{number, Gives};

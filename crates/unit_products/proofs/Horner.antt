@@ -7,8 +7,8 @@ use Prim.Native.Nat.{ℕ, zero, suc, _+_, _-_, _*_, _^_, _≤_, _<_}
 use native.Mathlib.Omega.{arith}
 use native.Mathlib.Nat.{le-trans}
 use lib.Dec.{T, lit≤}
-use lib.IntN.{ℤ, pos, natAbs, _-ℤ_}
-use lib.ListN.{length, getD}
+use lib.IntN.{ℤ, natAbs, _-ℤ_}
+use lib.ListN.{length}
 use mir.Facts.{and-yes, or-yes}
 use Rattle.integers.proofs.Absolute.{natAbs--}
 use Rattle.eisenstein.specs.Values.{ℤ[ω], value, 𝟘, units, unit, same, sameℤ, _+ω_, _*ω_}

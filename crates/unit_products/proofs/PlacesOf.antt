@@ -2,13 +2,12 @@
 use mathlib.Core.Path.{_≡_, refl, sym, _∙_, ap, ap₂, subst}
 use mathlib.Core.Bool.{Bool, true, false, cond}
 use mathlib.Core.List.{List}
-use mathlib.Core.Logic.{_≢_}
-use Prim.Native.Nat.{ℕ, _+_, _≤_, _<_}
+use Prim.Native.Nat.{ℕ, _+_, _<_}
 use native.Mathlib.Omega.{arith}
 use native.Mathlib.Decide.{ℕ-discrete}
 use lib.IntN.{pos}
-use lib.ListN.{length, getD, set}
-use lib.Seq.{getD-set-same, getD-set-other}
+use lib.ListN.{getD, set}
+use lib.Seq.{getD-set-other}
 use Rattle.eisenstein.specs.Values.{ℤ[ω], value, 𝟘, same, _+ω_, _*ω_}
 use Rattle.eisenstein.proofs.Solver.{ringω, _≐_, _⊞_, _⊠_, conω}
 use Rattle.polynomials.specs.Polynomials.{Polynomial, sum}

@@ -1,7 +1,6 @@
 // The product of an array of zeros and units with another array, by additions alone.
 // It reduces nothing, and what an array stands for in the scheme is not this crate's business.
 // Its one call relies on no caller: it asks of its arrays what its arithmetic needs, and takes less than 11 KiB of stack at every N.
-ghost use mathlib.Core.Path.{_≡_};
 ghost use lib.ListN.{length};
 ghost use Rattle.polynomials.specs.Polynomials.{coefficient, array, convolution};
 ghost use Rattle.unit_products.specs.Products.{Forms, multipliable};

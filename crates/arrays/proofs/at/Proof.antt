@@ -1,5 +1,5 @@
 -- `at` meets its contract.
-use mathlib.Core.Path.{_≡_, sym, subst}
+use mathlib.Core.Path.{sym, subst}
 use Prim.Native.Nat.{_≤_, _^_}
 use borrow.Author.Needs.{needs}
 use lib.Dec.{lit≤}

@@ -1,5 +1,5 @@
 -- `convolve` meets its contract.
-use mathlib.Core.Path.{_≡_, sym, _∙_, ap}
+use mathlib.Core.Path.{sym, _∙_, ap}
 use mathlib.Core.List.{List, _++_}
 use borrow.Author.Needs.{needs}
 use denote.Ref.{now}

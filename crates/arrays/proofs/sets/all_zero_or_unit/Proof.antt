@@ -1,5 +1,5 @@
 -- `all_zero_or_unit` meets its contract.
-use mathlib.Core.Path.{_≡_, sym, _∙_, subst}
+use mathlib.Core.Path.{sym, _∙_, subst}
 use lib.Dec.{T, lit≤}
 use lib.Signed.{ltZ-yes}
 use Rattle.arrays.specs.Arrays.{AllWithin}

@@ -6,7 +6,7 @@ use Rattle.integers.proofs.Machine.{cast-fits}
 use Rattle.eisenstein.specs.Values.{same}
 use Rattle.eisenstein.specs.Reduction.{mod2}
 use Rattle.eisenstein.proofs.Pairs.{pair-cast}
-use Rattle.arrays.proofs.Sizes.{small-64, coefficient-read}
+use Rattle.arrays.proofs.Sizes.{coefficient-read}
 use Rattle.arrays.proofs.sets.own_remainder_2_at.Statement.{statement}
 use Rattle.arrays.proofs.sets.own_remainder_2_at.Tie as tie
 

@@ -2,15 +2,13 @@
 use mathlib.Core.Path.{_≡_, sym, _∙_}
 use mathlib.Core.Bool.{Bool, not, _&&_}
 use mathlib.Core.List.{List, [], _∷_}
-use Prim.Native.Nat.{_*_, _≤_}
+use Prim.Native.Nat.{_*_}
 use borrow.Author.Needs.{needs}
 use lib.Dec.{T, eqb}
 use lib.ListN.{length}
-use Rattle.integers.proofs.Tests.{are-equal-2}
 use Rattle.refusals.specs.Outcomes.{Check, _if_, outcome}
-use Rattle.refusals.proofs.Checks.{refused-by, passed, none-left, holds, call-passed, call-refused}
+use Rattle.refusals.proofs.Checks.{refused-by, passed, none-left, call-passed, call-refused}
 use Rattle.parameters.specs.Sets.{outside}
-use Rattle.parameters.proofs.Ranges.{in-range}
 use Rattle.polynomials.specs.Polynomials.{coefficient, reduced2}
 use Rattle.packing.specs.Messages.{messageBytes}
 use Rattle.packing.specs.Calls.{unpackingChecks}

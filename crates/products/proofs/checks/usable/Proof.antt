@@ -1,5 +1,5 @@
 -- `usable` meets its contract.
-use mathlib.Core.Path.{sym, _∙_, ap, ap₂}
+use mathlib.Core.Path.{sym, _∙_, ap}
 use mathlib.Core.Bool.{Bool, not, _&&_}
 use borrow.Author.Needs.{needs}
 use Rattle.eisenstein.specs.Values.{ℤ[ω], value, 𝟘, same}

@@ -1,5 +1,5 @@
 -- `turn_at` meets its contract.
-use mathlib.Core.Path.{_≡_, _∙_, ap, ap₂}
+use mathlib.Core.Path.{_∙_, ap, ap₂}
 use mathlib.Core.List.{List, [], _∷_}
 use Prim.Native.Nat.{ℕ, _+_, _*_, _^_}
 use borrow.Author.Needs.{needs}
@@ -8,7 +8,6 @@ use lib.ListN.{getD, set}
 use mir.Syntax.{w32}
 use Rattle.integers.proofs.Ring.{var, _⊝_}
 use Rattle.integers.proofs.Machine.{Leaf, given, fits, exact}
-use Rattle.eisenstein.specs.Values.{value}
 use Rattle.polynomials.specs.Polynomials.{coefficient}
 use Rattle.unit_products.proofs.Horner.{turn-a, turn-b}
 use Rattle.unit_products.proofs.rotations.turn_at.Statement.{statement}
