@@ -20,7 +20,8 @@ use Rattle.polynomials.proofs.Arrays.{array-length, coefficient-array, array-by
 use Rattle.polynomials.proofs.Eisenstein.{sum-same}
 use Rattle.polynomials.proofs.Members.{all-at}
 use Rattle.arrays.proofs.Sizes.{from-parts}
-use Rattle.unit_products.specs.Rotations.{ζ, run, runs, is, Below, PartsBelow, Zeros, Summed}
+use Rattle.arrays.specs.Arrays.{AllWithin}
+use Rattle.unit_products.specs.Rotations.{ζ, run, runs, is, PartsBelow, Zeros, Summed}
 
 -- ---- times ζ
 
@@ -34,11 +35,11 @@ turn-a x = ap (λ (z : ℤ[ω]). z .a) (turn-parts x)
 pub turn-b : (x : ℤ[ω]) → x .a ≡ (ζ *ω x) .b
 turn-b x = ap (λ (z : ℤ[ω]). z .b) (turn-parts x)
 
-pub parts-below : {b : ℕ} (l : List ℤ) (i : ℕ) → Below b l → PartsBelow b (coefficient l i)
+pub parts-below : {b : ℕ} (l : List ℤ) (i : ℕ) → AllWithin b l → PartsBelow b (coefficient l i)
 unfolding coefficient
 parts-below l i h = (h (2 * i), h (2 * i + 1))
 
-turned-array : (n b : ℕ) (l : List ℤ) → Below b l → Below (2 * b) (array n (λ i. ζ *ω coefficient l i))
+turned-array : (n b : ℕ) (l : List ℤ) → AllWithin b l → AllWithin (2 * b) (array n (λ i. ζ *ω coefficient l i))
 turned-array n b l h =
     from-parts (2 * b) n (array n (λ i. ζ *ω coefficient l i)) (array-length n (λ i. ζ *ω coefficient l i))
     (λ i p.
@@ -47,8 +48,8 @@ turned-array n b l h =
     (let k = parts-below l i h in
     (le-trans (natAbs-- (coefficient l i .a) (coefficient l i .b)) (omega (arith, k)), omega (arith, k))))
 
-pub turned-below : (n b : ℕ) (l : List ℤ) {l′ : List ℤ} → l′ ≡ array n (λ i. ζ *ω coefficient l i) → Below b l → (length l′ ≡ 2 * n) × Below (2 * b) l′
-turned-below n b l e h = (ap length e ∙ array-length n (λ i. ζ *ω coefficient l i), subst (Below (2 * b)) (sym e) (turned-array n b l h))
+pub turned-below : (n b : ℕ) (l : List ℤ) {l′ : List ℤ} → l′ ≡ array n (λ i. ζ *ω coefficient l i) → AllWithin b l → (length l′ ≡ 2 * n) × AllWithin (2 * b) l′
+turned-below n b l e h = (ap length e ∙ array-length n (λ i. ζ *ω coefficient l i), subst (AllWithin (2 * b)) (sym e) (turned-array n b l h))
 
 -- times ζ, and then more
 turned-summed : (n : ℕ) {b : ℕ} {x y : Polynomial} (l₀ : List ℤ) {l l′ : List ℤ} → ((i : ℕ) → i < n → coefficient l₀ i ≡ x i) → l ≡ array n (λ i. ζ *ω coefficient l₀ i) → Summed n y b l l′ → (i : ℕ) → i < n → coefficient l′ i ≡ ζ *ω x i +ω y i
@@ -141,7 +142,7 @@ still-small (suc (suc (suc (suc (suc (suc m)))))) p = absurd (omega arith)
 pub record After (n : ℕ) (x : Polynomial) (t : List ℤ) (m : ℕ) (l : List ℤ) : Type 0 where
   pub long : length l ≡ 2 * n
   pub sums : (i : ℕ) → i < n → coefficient l i ≡ sum n (λ j. weight m (x j) *ω run n t j i)
-  pub below : Below (grown m) l
+  pub below : AllWithin (grown m) l
 
 pub after-none : (n : ℕ) (x : Polynomial) (t l : List ℤ) → length l ≡ 2 * n → Zeros l → After n x t 0 l
 unfolding coefficient grown

@@ -14,10 +14,10 @@ use Rattle.eisenstein.specs.Values.{ℤ[ω], value, 𝟘, _+ω_}
 use Rattle.eisenstein.proofs.Laws.{+ω-assoc, +ω-comm, +ω-zero}
 use Rattle.polynomials.specs.Polynomials.{Polynomial, coefficient, sum}
 use Rattle.polynomials.proofs.Eisenstein.{sum-split}
-use Rattle.arrays.specs.Arrays.{Small}
+use Rattle.arrays.specs.Arrays.{AllWithin, Small}
 use Rattle.arrays.proofs.Changing.{Changed}
 use Rattle.arrays.proofs.Scans.{sum-none, sum-more}
-use Rattle.unit_products.specs.Rotations.{Below, Twice, run, runs, fourAt, Places, Added, Summed, Rotated}
+use Rattle.unit_products.specs.Rotations.{Twice, run, runs, fourAt, Places, Added, Summed, Rotated}
 
 -- ---- an array that stands twice
 
@@ -39,7 +39,7 @@ module _ {y t : List ℤ} (h : Twice y t) where
           let e : (i + (n - j)) % n ≡ i + (n - j) = mod-eq-of-lt (omega arith) in
           ap₂ value (twice-at _ (2 * ((i + (n - j)) % n)) (omega arith) (inl (omega arith))) (twice-at _ (2 * ((i + (n - j)) % n) + 1) (omega arith) (inl (omega arith)))
 
-  pub twice-below : Small y → Below 8191 t
+  pub twice-below : Small y → AllWithin 8191 t
   twice-below s k = go (decLe (length y) k) (decLe (2 * length y) k)
     where
       at : (m : ℕ) → getD t k (pos 0) ≡ getD y m (pos 0) → natAbs (getD t k (pos 0)) ≤ 8191
@@ -88,7 +88,7 @@ sum-four x m =
     ap (λ (z : ℤ[ω]). sum m x +ω (z +ω x (m + 1) +ω x (m + 2) +ω x (m + 3))) (ap x {x = m} {y = m + 0} (omega arith) ∙ sym (+ω-zero (x (m + 0))) ∙ +ω-comm (x (m + 0)) 𝟘)
     ∙ sym (sum-split m 4 x)
 
-module _ (n : ℕ) (t : List ℤ) (small : Below 8191 t) where
+module _ (n : ℕ) (t : List ℤ) (small : AllWithin 8191 t) where
   run-added : (j : ℕ) {l l′ : List ℤ} → length l ≡ 2 * n → Added (λ k. getD t (2 * (n - j) + k) (pos 0)) l l′ → Summed n (run n t j) 8191 l l′
   run-added j e h = added-summed {g = λ k. getD t (2 * (n - j) + k) (pos 0)} (λ k. small (2 * (n - j) + k)) e h
 

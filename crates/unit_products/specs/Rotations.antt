@@ -7,16 +7,13 @@ use lib.IntN.{ℤ, pos, natAbs, _+ℤ_}
 use lib.ListN.{length, getD}
 use Rattle.eisenstein.specs.Values.{ℤ[ω], value, 𝟘, same, _+ω_, _*ω_}
 use Rattle.polynomials.specs.Polynomials.{Polynomial, coefficient, sum}
+use Rattle.arrays.specs.Arrays.{AllWithin}
 
 -- unit 1, of which each unit is a power: unit k is ζᵏ
 abbrev pub ζ : ℤ[ω]
 ζ = value (pos 1) (pos 1)
 
--- each number at most b in size
-abbrev pub Below : ℕ → List ℤ → Type 0
-Below b l = (k : ℕ) → natAbs (getD l k (pos 0)) ≤ b
-
--- both parts so
+-- both parts at most b in size
 abbrev pub PartsBelow : ℕ → ℤ[ω] → Type 0
 PartsBelow b x = (natAbs (x .a) ≤ b) × (natAbs (x .b) ≤ b)
 
@@ -80,5 +77,5 @@ pub record Summands (n b : ℕ) (sums twice : List ℤ) (places : List ℕ) (cou
   pub few : count ≤ n
   pub places-long : n ≤ length places
   pub below : (m : ℕ) → m < count → getD places m 0 < n
-  pub sums-below : Below b sums
-  pub twice-below : Below 8191 twice
+  pub sums-below : AllWithin b sums
+  pub twice-below : AllWithin 8191 twice

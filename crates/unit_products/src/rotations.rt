@@ -7,9 +7,9 @@ ghost use lib.IntN.{pos, natAbs};
 ghost use lib.ListN.{length, getD, set};
 ghost use Rattle.eisenstein.specs.Values.{value, _*ω_};
 ghost use Rattle.polynomials.specs.Polynomials.{coefficient, array, sum, convolution, zerosAndUnits};
-ghost use Rattle.arrays.specs.Arrays.{Small};
+ghost use Rattle.arrays.specs.Arrays.{AllWithin, Small};
 ghost use Rattle.unit_products.specs.Products.{Operands};
-ghost use Rattle.unit_products.specs.Rotations.{ζ, Below, PartsBelow, Zeros, Twice, run, runs, fourAt, Fits, Added, Summed, Rotated, Summands};
+ghost use Rattle.unit_products.specs.Rotations.{ζ, PartsBelow, Zeros, Twice, run, runs, fourAt, Fits, Added, Summed, Rotated, Summands};
 use crate::places::places_of;
 use eisenstein::Pair;
 
@@ -31,7 +31,7 @@ fn lay_out_twice(y: &[i32], twice: &mut [i16])
 // The sum of four numbers of `twice`, formed in 16 bits.
 fn sum_of_four(twice: &[i16], a: usize, b: usize, c: usize, d: usize) -> i32
     requires { ⌜ (a < length (now twice)) × (b < length (now twice)) × (c < length (now twice)) × (d < length (now twice)) × (length (now twice) ≤ 4096) ⌝ }
-    requires { ⌜ Below 8191 (now twice) ⌝ }
+    requires { ⌜ AllWithin 8191 (now twice) ⌝ }
     ensures { λ r. ⌜ (r ≡ fourAt (now (twice .entry)) a b c d) × (natAbs r ≤ 2 ^ 15) ⌝ }
 {
     (twice[a] + twice[b] + twice[c] + twice[d]) as i32
@@ -40,7 +40,7 @@ fn sum_of_four(twice: &[i16], a: usize, b: usize, c: usize, d: usize) -> i32
 // Adds four runs of `twice`, from places a, b, c and d on, to the sums, which are read and written once for the four.
 fn add_four(sums: &mut [i32], twice: &[i16], a: usize, b: usize, c: usize, d: usize)
     requires { ⌜ Fits a (now sums) (now twice) × Fits b (now sums) (now twice) × Fits c (now sums) (now twice) × Fits d (now sums) (now twice) ⌝ }
-    requires { ⌜ Below (2 ^ 30) (now sums) × Below 8191 (now twice) × (length (now twice) ≤ 4096) ⌝ }
+    requires { ⌜ AllWithin (2 ^ 30) (now sums) × AllWithin 8191 (now twice) × (length (now twice) ≤ 4096) ⌝ }
     ensures { λ _. ⌜ Added (λ k. fourAt (now (twice .entry)) (a + k) (b + k) (c + k) (d + k)) (now (sums .entry)) (now (sums .exit)) ⌝ }
 {
     let mut k = 0;
@@ -52,7 +52,7 @@ fn add_four(sums: &mut [i32], twice: &[i16], a: usize, b: usize, c: usize, d: us
 
 // Adds one run.
 fn add_one(sums: &mut [i32], twice: &[i16], a: usize)
-    requires { ⌜ Fits a (now sums) (now twice) × Below (2 ^ 30) (now sums) × Below 8191 (now twice) × (length (now twice) ≤ 4096) ⌝ }
+    requires { ⌜ Fits a (now sums) (now twice) × AllWithin (2 ^ 30) (now sums) × AllWithin 8191 (now twice) × (length (now twice) ≤ 4096) ⌝ }
     ensures { λ _. ⌜ Added (λ k. getD (now (twice .entry)) (a + k) (pos 0)) (now (sums .entry)) (now (sums .exit)) ⌝ }
 {
     let mut k = 0;
@@ -133,7 +133,7 @@ fn turn_at(x: &mut [i32], i: usize)
 // Multiplies each coefficient by ζ.
 fn turn(x: &mut [i32], n: usize)
     requires { ⌜ (n ≤ 1024) × (length (now x) ≡ 2 * n) ⌝ }
-    requires { ⌜ Below (2 ^ 29) (now x) ⌝ }
+    requires { ⌜ AllWithin (2 ^ 29) (now x) ⌝ }
     ensures { λ _. ⌜ now (x .exit) ≡ array n (λ i. ζ *ω coefficient (now (x .entry)) i) ⌝ }
 {
     let mut i = 0;

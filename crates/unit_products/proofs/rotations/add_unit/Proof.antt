@@ -8,7 +8,8 @@ use lib.ListN.{length}
 use mir.Facts.{toZ-ofZ}
 use Rattle.eisenstein.specs.Values.{ℤ[ω], value}
 use Rattle.polynomials.specs.Polynomials.{coefficient}
-use Rattle.unit_products.specs.Rotations.{Below, Places, Summands}
+use Rattle.arrays.specs.Arrays.{AllWithin}
+use Rattle.unit_products.specs.Rotations.{Places, Summands}
 use Rattle.unit_products.proofs.RotatedSums.{unit-summed}
 use Rattle.unit_products.proofs.rotations.add_unit.Statement.{statement}
 use Rattle.unit_products.proofs.rotations.add_unit.Tie as tie
@@ -20,7 +21,7 @@ listed c =
     subst (λ (u : ℤ[ω]). Places (s .args .n) u (coefficient (s .args .x .now)) (c .places-of .last .1 .1 .1 .1 .0) (c .places-of .result)) (ap₂ value (toZ-ofZ (s .fits .ua)) (toZ-ofZ (s .fits .ub))) (c .places-of .ensures .1)
 
 -- what is added, to sums as they are now
-summands : (c : tie.After-places-of) (b : ℕ) (sums : List ℤ) → let s = c .before .before .before in length sums ≡ 2 * s .args .n → Below b sums → Summands (s .args .n) b sums (s .args .twice .now) (c .places-of .last .1 .1 .1 .1 .0) (c .places-of .result)
+summands : (c : tie.After-places-of) (b : ℕ) (sums : List ℤ) → let s = c .before .before .before in length sums ≡ 2 * s .args .n → AllWithin b sums → Summands (s .args .n) b sums (s .args .twice .now) (c .places-of .last .1 .1 .1 .1 .0) (c .places-of .result)
 summands c b sums e g =
     let h = c .before .before .before .pre .1 in
     let k = listed c in
