@@ -26,6 +26,7 @@ use Rattle.eisenstein.proofs.Norms.{part-a, part-b}
 use Rattle.eisenstein.proofs.Pairs.{pair-read}
 use Rattle.eisenstein.proofs.Remainders.{modQ-is-remainder, remainder-size}
 use Rattle.polynomials.specs.Polynomials.{Polynomial, coefficient, array, all, count, nonzero, among, unitsOnly, reducedQ, reduced2}
+use Rattle.arrays.specs.Conditions.{Modulus}
 use Rattle.arrays.specs.Arrays.{AllWithin, Small, allWithin}
 use Rattle.polynomials.proofs.Arrays.{coefficient-array, array-length}
 use Rattle.polynomials.proofs.Bounds.{Within}
@@ -44,11 +45,8 @@ pub coefficient-read : (l : List ℤ) (i : ℕ) {a b : ℤ} → (a ≡ getD l (2
 unfolding coefficient
 coefficient-read l i {a} {b} f g = ap₂ value (read-64 a (f .1) tt ∙ f .0) (read-64 b (g .1) tt ∙ g .0)
 
-pub modulus-in-range : {w : Width} {c d : ℤ} → SFits w c → SFits w d → beyond 4095 (value c d) ≡ false → beyond 4095 (value (toZ w (ofZ w c)) (toZ w (ofZ w d))) ≡ false
-modulus-in-range f g h = ap (beyond 4095) (pair-read f g) ∙ h
-
-pub modulus-not-zero : {w : Width} {c d : ℤ} → SFits w c → SFits w d → value c d ≢ 𝟘 → value (toZ w (ofZ w c)) (toZ w (ofZ w d)) ≢ 𝟘
-modulus-not-zero f g n e = n (sym (pair-read f g) ∙ e)
+pub modulus-handed : {w : Width} {c d : ℤ} → SFits w c → SFits w d → Modulus (value c d) → Modulus (value (toZ w (ofZ w c)) (toZ w (ofZ w d)))
+modulus-handed f g = subst Modulus (sym (pair-read f g))
 
 -- ---- every number of an array, from its coefficients
 

@@ -1,17 +1,15 @@
 // The tests of arrays, coefficient by coefficient, and the refusal of an array that is not in its set.
 ghost use mathlib.Core.Path.{_≡_};
-ghost use mathlib.Core.Bool.{false};
-ghost use mathlib.Core.Logic.{_≢_};
 ghost use Prim.Native.Nat.{_+_, _*_, _^_, _<_, _≤_};
 ghost use lib.ListN.{length};
 ghost use Rattle.refusals.specs.Outcomes.{refused, outcome, Passes};
 ghost use Rattle.refusals.specs.Numbers.{answered};
 ghost use Rattle.eisenstein.specs.Values.{value, 𝟘, same};
 ghost use Rattle.eisenstein.specs.Reduction.{modQ, mod2};
-ghost use Rattle.eisenstein.specs.Calls.{beyond};
 ghost use Rattle.parameters.specs.Sets.{setOf, parameterChecks};
 ghost use Rattle.polynomials.specs.Polynomials.{coefficient, sum, count, nonzero, zerosAndUnits, unitsOnly, unitsOfSumZero, reducedQ, reduced2};
 ghost use Rattle.arrays.specs.Arrays.{inSet, notInSet, arrayChecks};
+ghost use Rattle.arrays.specs.Conditions.{Modulus};
 use crate::ArraySet;
 use crate::at;
 use crate::limits::numbers_within;
@@ -50,7 +48,7 @@ fn nonzero_at(x: &[i32], i: usize) -> bool
 }
 
 fn own_remainder_q_at(x: &[i32], i: usize, c: i32, d: i32) -> bool
-    requires { ⌜ (i < 1024) × (2 * i + 1 < length (now x)) × (beyond 4095 (value c d) ≡ false) × (value c d ≢ 𝟘) ⌝ }
+    requires { ⌜ (i < 1024) × (2 * i + 1 < length (now x)) × Modulus (value c d) ⌝ }
     ensures { λ r. ⌜ r ≡ same (modQ (value c d) (coefficient (now (x .entry)) i)) (coefficient (now (x .entry)) i) ⌝ }
 {
     let a = x[2 * i];
@@ -132,7 +130,7 @@ fn units_of_sum_zero(x: &[i32], n: usize, s: usize) -> bool
 }
 
 fn all_reduced_modulo_q(x: &[i32], n: usize, c: i32, d: i32) -> bool
-    requires { ⌜ (n ≤ 1024) × (length (now x) ≡ 2 * n) × (beyond 4095 (value c d) ≡ false) × (value c d ≢ 𝟘) ⌝ }
+    requires { ⌜ (n ≤ 1024) × (length (now x) ≡ 2 * n) × Modulus (value c d) ⌝ }
     ensures { λ r. ⌜ r ≡ reducedQ n (value c d) (coefficient (now (x .entry))) ⌝ }
 {
     let mut i = 0;

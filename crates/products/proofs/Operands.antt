@@ -7,13 +7,11 @@ use Prim.Native.Nat.{_*_, _^_, _≤_}
 use lib.Dec.{T}
 use lib.IntN.{ℤ, natAbs}
 use lib.ListN.{length}
-use mir.Syntax.{Width}
-use mir.Val.{SFits, toZ, ofZ}
 use mir.Facts.{and-yes}
 use Rattle.integers.proofs.Tests.{are-equal-3}
 use Rattle.refusals.specs.Outcomes.{written, Passes}
 use Rattle.refusals.proofs.Checks.{done-all, done-holds}
-use Rattle.eisenstein.specs.Values.{ℤ[ω], value, 𝟘, same}
+use Rattle.eisenstein.specs.Values.{ℤ[ω], 𝟘, same}
 use Rattle.eisenstein.specs.Reduction.{modQ}
 use Rattle.eisenstein.specs.Calls.{beyond, reduceQ}
 use Rattle.eisenstein.proofs.Equality.{same-true, same-false}
@@ -22,8 +20,9 @@ use Rattle.parameters.specs.Sets.{ParameterSet, parameterChecks}
 use Rattle.parameters.proofs.AcceptedParameters.{accepted-parameters, modulus-nonzero}
 use Rattle.polynomials.specs.Polynomials.{coefficient, reducedQ}
 use Rattle.arrays.specs.Arrays.{full, Small}
-use Rattle.arrays.proofs.Sizes.{reducedQ-small, modulus-in-range, modulus-not-zero}
-use Rattle.products.specs.Conditions.{Modulus, Full}
+use Rattle.arrays.specs.Conditions.{Modulus}
+use Rattle.arrays.proofs.Sizes.{reducedQ-small}
+use Rattle.products.specs.Conditions.{Full}
 use Rattle.products.specs.Products.{convolvingChecks, usable}
 
 -- ---- the modulus
@@ -41,10 +40,6 @@ modulus-of q h =
     negated : (t : Bool) → T (not t) → t ≡ false
     negated true k = absurd k
     negated false k = refl
-
--- a modulus as it is handed to a callee
-pub modulus-handed : {w : Width} {c d : ℤ} → SFits w c → SFits w d → Modulus (value c d) → Modulus (value (toZ w (ofZ w c)) (toZ w (ofZ w d)))
-modulus-handed f g m = record { in-range = modulus-in-range f g (m .in-range); not-zero = modulus-not-zero f g (m .not-zero) }
 
 -- within the limits nothing is refused
 pub remainder-of : (q x : ℤ[ω]) → Modulus q → natAbs (x .a) ≤ 2 ^ 40 → natAbs (x .b) ≤ 2 ^ 40 → written (reduceQ q x) 𝟘 ≡ modQ q x

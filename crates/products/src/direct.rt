@@ -7,7 +7,8 @@ ghost use Rattle.eisenstein.specs.Values.{value, _*ω_};
 ghost use Rattle.eisenstein.specs.Reduction.{modQ};
 ghost use Rattle.polynomials.specs.Polynomials.{coefficient, array, sum, convolution};
 ghost use Rattle.arrays.specs.Arrays.{Small};
-ghost use Rattle.products.specs.Conditions.{Modulus, Full};
+ghost use Rattle.arrays.specs.Conditions.{Modulus};
+ghost use Rattle.products.specs.Conditions.{Full};
 use crate::reductions::store;
 use eisenstein::Wide;
 

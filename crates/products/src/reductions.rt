@@ -5,7 +5,7 @@ ghost use lib.ListN.{length, set};
 ghost use Rattle.eisenstein.specs.Values.{value};
 ghost use Rattle.eisenstein.specs.Reduction.{modQ, mod2};
 ghost use Rattle.polynomials.specs.Polynomials.{coefficient, array};
-ghost use Rattle.products.specs.Conditions.{Modulus};
+ghost use Rattle.arrays.specs.Conditions.{Modulus};
 use arrays::at;
 use eisenstein::Pair;
 

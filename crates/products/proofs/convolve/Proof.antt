@@ -14,7 +14,8 @@ use Rattle.eisenstein.proofs.Pairs.{pair-read}
 use Rattle.parameters.specs.Sets.{ParameterSet, setOf, parameterChecks}
 use Rattle.polynomials.specs.Polynomials.{coefficient, array, convolution}
 use Rattle.products.specs.Products.{convolvingChecks, convolving}
-use Rattle.products.proofs.Operands.{convolving-passed, modulus-handed}
+use Rattle.arrays.proofs.Sizes.{modulus-handed}
+use Rattle.products.proofs.Operands.{convolving-passed}
 use Rattle.products.proofs.convolve.Statement.{statement}
 use Rattle.products.proofs.convolve.Tie as tie
 

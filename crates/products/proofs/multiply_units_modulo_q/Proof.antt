@@ -15,7 +15,8 @@ use Rattle.polynomials.proofs.Arrays.{array-length, array-same, coefficient-arr
 use Rattle.unit_products.specs.Products.{multipliable}
 use Rattle.unit_products.proofs.Operands.{operands-of, was-formed, was-not-formed, formed, not-formed}
 use Rattle.products.specs.Products.{usable}
-use Rattle.products.proofs.Operands.{modulus-of, modulus-handed}
+use Rattle.arrays.proofs.Sizes.{modulus-handed}
+use Rattle.products.proofs.Operands.{modulus-of}
 use Rattle.products.proofs.multiply_units_modulo_q.Statement.{statement}
 use Rattle.products.proofs.multiply_units_modulo_q.Tie as tie
 

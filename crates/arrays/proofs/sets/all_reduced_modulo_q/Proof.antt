@@ -10,7 +10,7 @@ use Rattle.eisenstein.specs.Reduction.{modQ}
 use Rattle.eisenstein.proofs.Pairs.{pair-read}
 use Rattle.polynomials.specs.Polynomials.{coefficient, reducedQ}
 use Rattle.arrays.proofs.Scans.{Scanned, scan-none, scan-more, scan-fails, scan-all}
-use Rattle.arrays.proofs.Sizes.{modulus-in-range, modulus-not-zero}
+use Rattle.arrays.proofs.Sizes.{modulus-handed}
 use Rattle.arrays.proofs.sets.all_reduced_modulo_q.Statement.{statement}
 use Rattle.arrays.proofs.sets.all_reduced_modulo_q.Tie as tie
 
@@ -28,7 +28,7 @@ all-reduced-modulo-q-spec =
     Inv-loop
     μ-loop
     (λ c. scan-none)
-    (λ c κs. let s = c .before .before in (omega arith, omega arith, modulus-in-range (s .fits .c) (s .fits .d) (s .pre .2), modulus-not-zero (s .fits .c) (s .fits .d) (s .pre .3)))
+    (λ c κs. let s = c .before .before in (omega arith, omega arith, modulus-handed (s .fits .c) (s .fits .d) (s .pre .2)))
     (λ c.
     let l = c .before .before .before in
     scan-fails (l .loop .inv) (c .before .before .loop-test .taken) (sym (c .before .own-remainder-q-at .ensures) ∙ not-true _ (c .if1 .taken)) ∙ ap (λ (q : ℤ[ω]). reducedQ (l .before .args .n) q (coefficient (l .before .args .x .now))) (pair-read (l .before .fits .c) (l .before .fits .d)))

@@ -11,7 +11,7 @@ use Rattle.parameters.proofs.AcceptedParameters.{Accepted, accepted-parameters,
 use Rattle.polynomials.specs.Polynomials.{coefficient, reducedQ}
 use Rattle.arrays.specs.Arrays.{inSet}
 use Rattle.arrays.specs.declared.ArraySet.{ArraySet}
-use Rattle.arrays.proofs.Sizes.{modulus-in-range, modulus-not-zero}
+use Rattle.arrays.proofs.Sizes.{modulus-handed}
 use Rattle.arrays.proofs.sets.in_set.Statement.{statement}
 use Rattle.arrays.proofs.sets.in_set.Tie as tie
 
@@ -49,7 +49,7 @@ in-set-spec =
     (λ c κs.
     let s = c .before .before .before .before in
     let a = accepted s in
-    (a .N-small, s .pre .1, modulus-in-range (search needs) (search needs) (a .q-small), modulus-not-zero (search needs) (search needs) (modulus-nonzero (setOf (s .args .p)) a)))
+    (a .N-small, s .pre .1, modulus-handed (search needs) (search needs) (record { in-range = a .q-small; not-zero = modulus-nonzero (setOf (s .args .p)) a })))
     (λ c. c .units-only .ensures ∙ sym (ap (tested (c .before .before .before .before .before)) (c .before .enum-told .given .1)))
     (λ c. c .units-of-sum-zero .ensures ∙ sym (ap (tested (c .before .before .before .before .before)) (c .before .enum-told2 .given .1)))
     (λ c. c .units-of-sum-zero2 .ensures ∙ sym (ap (tested (c .before .before .before .before .before)) (c .before .enum-told3 .given .1)))

@@ -30,7 +30,7 @@ returns c =
     let s = c .before .before .before in
     c .is-remainder .ensures
     ∙ ap₂ (λ (q x : ℤ[ω]). not (beyond 4095 q) && (not (same q 𝟘) && same (modQ q x) x)) (pair-read (s .fits .c) (s .fits .d)) (x-read (c .before))
-    ∙ rw (s .pre .2, same-false (value (s .args .c) (s .args .d)) 𝟘 (s .pre .3))
+    ∙ rw (s .pre .2 .in-range, same-false (value (s .args .c) (s .args .d)) 𝟘 (s .pre .2 .not-zero))
 
 pub own-remainder-q-at-spec : {M : Type 1} → statement M
 own-remainder-q-at-spec =

@@ -9,8 +9,8 @@ use Rattle.eisenstein.specs.Reduction.{modQ}
 use Rattle.eisenstein.proofs.Pairs.{pair-read}
 use Rattle.polynomials.specs.Polynomials.{coefficient, array, convolution}
 use Rattle.arrays.proofs.Changing.{Changed, changed-none, stored-next, stored-all}
-use Rattle.arrays.proofs.Sizes.{read-64, small-64}
-use Rattle.products.proofs.Operands.{remainder-of, modulus-handed}
+use Rattle.arrays.proofs.Sizes.{modulus-handed, read-64, small-64}
+use Rattle.products.proofs.Operands.{remainder-of}
 use Rattle.products.proofs.direct.convolve_q.Statement.{statement}
 use Rattle.products.proofs.direct.convolve_q.Tie as tie
 

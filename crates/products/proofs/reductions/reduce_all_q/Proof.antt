@@ -9,7 +9,7 @@ use Rattle.eisenstein.specs.Reduction.{modQ}
 use Rattle.eisenstein.proofs.Pairs.{pair-read}
 use Rattle.polynomials.specs.Polynomials.{coefficient, array}
 use Rattle.arrays.proofs.Changing.{Changed, changed-none, stored-next, stored-all}
-use Rattle.products.proofs.Operands.{modulus-handed}
+use Rattle.arrays.proofs.Sizes.{modulus-handed}
 use Rattle.products.proofs.reductions.reduce_all_q.Statement.{statement}
 use Rattle.products.proofs.reductions.reduce_all_q.Tie as tie
 

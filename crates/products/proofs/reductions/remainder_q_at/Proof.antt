@@ -6,8 +6,8 @@ use borrow.Author.Needs.{needs}
 use Rattle.eisenstein.specs.Values.{value}
 use Rattle.eisenstein.specs.Reduction.{modQ}
 use Rattle.eisenstein.proofs.Pairs.{pair-read}
-use Rattle.arrays.proofs.Sizes.{small-64, coefficient-read}
-use Rattle.products.proofs.Operands.{remainder-of, modulus-handed}
+use Rattle.arrays.proofs.Sizes.{modulus-handed, small-64, coefficient-read}
+use Rattle.products.proofs.Operands.{remainder-of}
 use Rattle.products.proofs.reductions.remainder_q_at.Statement.{statement}
 use Rattle.products.proofs.reductions.remainder_q_at.Tie as tie
 
