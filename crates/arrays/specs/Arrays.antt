@@ -51,6 +51,6 @@ Small = AllWithin 8191
 abbrev pub allSmall : List ℤ → Bool
 allSmall = allWithin 8191
 
--- An array of N coefficients, N in range, that are zeros and units alone.
+-- An array of N coefficients, N at most 1,024, that are zeros and units alone.
 unfoldable pub unitsArray : ℕ → List ℤ → Bool
 unitsArray N x = leb N 1024 && (full N (length x) && zerosAndUnits N (coefficient x))

@@ -71,7 +71,7 @@ pub fn three_full(n: u32, x: usize, y: usize, z: usize) -> bool
     false
 }
 
-// Whether x is an array of N coefficients, N in range, that are zeros and units alone.
+// Whether x is an array of N coefficients, N at most 1,024, that are zeros and units alone.
 pub fn zeros_and_units(x: &[i32], n: u32) -> bool
     ensures { λ r. ⌜ r ≡ unitsArray n (now (x .entry)) ⌝ }
 {

@@ -41,8 +41,10 @@ fn nonzero_at(x: &[i32], i: usize) -> bool
     requires { ⌜ (i < 1024) × (2 * i + 1 < length (now x)) ⌝ }
     ensures { λ r. ⌜ r ≡ nonzero (coefficient (now (x .entry)) i) ⌝ }
 {
-    if x[2 * i] == 0 {
-        return x[2 * i + 1] != 0;
+    let a = x[2 * i];
+    let b = x[2 * i + 1];
+    if a == 0 {
+        return b != 0;
     }
     true
 }
@@ -83,7 +85,7 @@ fn count_nonzero(x: &[i32], n: usize) -> usize
     k
 }
 
-// A unit's parts are at most 1 in size, and differ by at most 1; so are 0's, and no others.
+// The parts of 0 and of a unit are at most 1 in size and differ by at most 1, and those of no other value.
 pub(crate) fn all_zero_or_unit(x: &[i32], n: usize) -> bool
     requires { ⌜ (n ≤ 1024) × (length (now x) ≡ 2 * n) ⌝ }
     ensures { λ r. ⌜ r ≡ zerosAndUnits n (coefficient (now (x .entry))) ⌝ }

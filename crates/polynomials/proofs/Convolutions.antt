@@ -26,10 +26,6 @@ module _ {A : Type 0} (R : Ring A) {n : ℕ} (G : Group n) where
   open Group G using (op, over, closed, assoc, unit-left, unit-right, over-closed, op-over, over-only)
 
   -- a test passes through a product and a sum
-  pick-mul : (t : Bool) (a b : A) → _⊗_ (pick R t a) b ≡ pick R t (_⊗_ a b)
-  pick-mul true a b = refl
-  pick-mul false a b = zero-mul R b
-
   mul-pick : (t : Bool) (a b : A) → _⊗_ a (pick R t b) ≡ pick R t (_⊗_ a b)
   mul-pick true a b = refl
   mul-pick false a b = mul-zero a

@@ -6,18 +6,20 @@ ghost use Rattle.eisenstein.specs.Values.{value, same};
 ghost use Rattle.polynomials.specs.Polynomials.{coefficient};
 ghost use Rattle.unit_products.specs.Rotations.{Places};
 
-// Whether coefficient i is (a, b).
+// Whether coefficient i is (a, b). Both parts are read before either is asked, so that no jump of the compiled loop hangs on x.
 fn coefficient_is(x: &[i32], i: usize, a: i32, b: i32) -> bool
     requires { ⌜ (i < 1024) × (2 * i + 1 < length (now x)) ⌝ }
     ensures { λ r. ⌜ r ≡ same (coefficient (now (x .entry)) i) (value a b) ⌝ }
 {
-    if x[2 * i] == a {
-        return x[2 * i + 1] == b;
+    let xa = x[2 * i];
+    let xb = x[2 * i + 1];
+    if xa == a {
+        return xb == b;
     }
     false
 }
 
-// Lists the places at which x is u = (ua, ub), and gives their count. Each place is written and stays if it counts, so that no branch hangs on x.
+// Lists the places at which x is u = (ua, ub), and gives their count. Each place is written, and stays if it counts.
 pub(crate) fn places_of(x: &[i32], n: usize, ua: i32, ub: i32, places: &mut [u16]) -> usize
     requires { ⌜ (n ≤ 1024) × (length (now x) ≡ 2 * n) × (n ≤ length (now places)) ⌝ }
     ensures { λ r. ⌜ (length (now (places .exit)) ≡ length (now (places .entry))) × Places n (value ua ub) (coefficient (now (x .entry))) (now (places .exit)) r ⌝ }

@@ -11,7 +11,6 @@ ghost use Rattle.arrays.specs.Arrays.{AllWithin, Small};
 ghost use Rattle.unit_products.specs.Products.{Operands};
 ghost use Rattle.unit_products.specs.Rotations.{ζ, PartsBelow, Zeros, Twice, run, runs, fourAt, Fits, Added, Summed, Rotated, Summands};
 use crate::places::places_of;
-use eisenstein::Pair;
 
 // Lays y out twice, once after the other, so that each rotation of it is one run of numbers.
 fn lay_out_twice(y: &[i32], twice: &mut [i16])
@@ -186,7 +185,7 @@ fn multiply_with(
     add_units(x, n, twice, places, out);
 }
 
-// Room for an array twice and for the places of all its coefficients: 10 KiB of the caller's stack at the largest N, and 1.25 KiB up to N = 128,
+// Room for an array twice and for the places of all its coefficients, at the largest N 10 KiB. For N up to 128 there is a room of 1.25 KiB,
 // so that a small product does not spend its time clearing room for a large one.
 fn room_for_twice() -> [i16; 4096]
     ensures { λ r. ⌜ length r ≡ 4096 ⌝ }

@@ -33,7 +33,7 @@ fn open_with(
     packing::unpack(n, m, message);
 }
 
-// The products take 2 KiB of stack.
+// With room for two products of N up to 128, 2 KiB to clear.
 fn open_few(p: Parameters, f: &[i32], f2: &[i32], e: &[i32], message: &mut [u8])
     requires { ⌜ p .n ≤ 128 ⌝ }
     requires { ⌜ Passes (parameterChecks (setOf p) ++ openingChecks (setOf p) (now f) (now f2) (now e) (length (now message))) ⌝ }
@@ -46,7 +46,7 @@ fn open_few(p: Parameters, f: &[i32], f2: &[i32], e: &[i32], message: &mut [u8])
     open_with(p, f, f2, e, &mut product[..k], &mut m[..k], message);
 }
 
-// The products take 16 KiB of stack.
+// With room for every N, 16 KiB.
 fn open_many(p: Parameters, f: &[i32], f2: &[i32], e: &[i32], message: &mut [u8])
     requires { ⌜ Passes (parameterChecks (setOf p) ++ openingChecks (setOf p) (now f) (now f2) (now e) (length (now message))) ⌝ }
     ensures { λ _. ⌜ now (message .exit) ≡ unpacked (p .n) (opened (setOf p) (coefficient (now (f .entry))) (coefficient (now (f2 .entry))) (coefficient (now (e .entry)))) ⌝ }

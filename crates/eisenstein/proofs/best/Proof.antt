@@ -9,7 +9,7 @@ use mir.Val.{toZ, ofZ}
 use mir.Facts.{toZ-ofZ}
 use Rattle.integers.proofs.Machine.{sfits-within}
 use Rattle.eisenstein.specs.Values.{value}
-use Rattle.eisenstein.specs.Reduction.{better, best}
+use Rattle.eisenstein.specs.Reduction.{better}
 use Rattle.eisenstein.proofs.TieRule.{best-first, best-second}
 use Rattle.eisenstein.proofs.best.Statement.{statement}
 use Rattle.eisenstein.proofs.best.Tie as tie

@@ -33,7 +33,7 @@ nonzero-at-spec =
     (λ c.
     let s = c .before .before .before in
     let b = getD (s .args .x .now) (2 * s .args .i + 1) (pos 0) in
-    ap not (same-bits b (pos 0) (record { sfits = c .result .given }) zero-fits ∙ sym (ap (λ (t : Bool). t && sameℤ b (pos 0)) (sameℤ-true (bits-same {w = w32} (record { sfits = c .before .before .if12 .given }) zero-fits (c .before .if1 .taken))))))
+    ap not (same-bits b (pos 0) (record { sfits = c .before .b .given }) zero-fits ∙ sym (ap (λ (t : Bool). t && sameℤ b (pos 0)) (sameℤ-true (bits-same {w = w32} (record { sfits = c .before .before .a .given }) zero-fits (c .if1 .taken))))))
     (λ c.
-    let s = c .before .before in
+    let s = c .before .before .before in
     sym (ap (λ (t : Bool). not (t && sameℤ (getD (s .args .x .now) (2 * s .args .i + 1) (pos 0)) (pos 0))) (sameℤ-false (λ e. c .if1 .left (ap (ofZ w32) e))))))

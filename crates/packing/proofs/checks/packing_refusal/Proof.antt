@@ -4,7 +4,7 @@ use mathlib.Core.Bool.{Bool, not, _&&_}
 use mathlib.Core.List.{List, [], _∷_}
 use Prim.Native.Nat.{_*_}
 use borrow.Author.Needs.{needs}
-use lib.Dec.{T, eqb}
+use lib.Dec.{eqb}
 use lib.ListN.{length}
 use Rattle.refusals.specs.Outcomes.{Check, _if_, outcome}
 use Rattle.refusals.proofs.Checks.{refused-by, passed, none-left, call-passed, call-refused}

@@ -28,8 +28,8 @@ coefficient-is-spec =
     (λ c. search needs)
     (λ c.
     let s = c .before .before .before in
-    same-bits (getD (s .args .x .now) (2 * s .args .i + 1) (pos 0)) (s .args .b) (record { sfits = c .result .given }) (s .fits .b)
-    ∙ sym (ap (λ (t : Bool). t && sameℤ (getD (s .args .x .now) (2 * s .args .i + 1) (pos 0)) (s .args .b)) (sameℤ-true (bits-same {w = w32} (record { sfits = c .before .before .if12 .given }) (s .fits .a) (c .before .if1 .taken)))))
+    same-bits (getD (s .args .x .now) (2 * s .args .i + 1) (pos 0)) (s .args .b) (record { sfits = c .before .xb .given }) (s .fits .b)
+    ∙ sym (ap (λ (t : Bool). t && sameℤ (getD (s .args .x .now) (2 * s .args .i + 1) (pos 0)) (s .args .b)) (sameℤ-true (bits-same {w = w32} (record { sfits = c .before .before .xa .given }) (s .fits .a) (c .if1 .taken)))))
     (λ c.
-    let s = c .before .before in
+    let s = c .before .before .before in
     sym (ap (λ (t : Bool). t && sameℤ (getD (s .args .x .now) (2 * s .args .i + 1) (pos 0)) (s .args .b)) (sameℤ-false (λ e. c .if1 .left (ap (ofZ w32) e))))))

@@ -1,15 +1,15 @@
 -- `places_of` meets its contract. The loop's invariant: the places so far are listed.
-use mathlib.Core.Path.{_≡_, refl, sym, _∙_, ap, ap₂, subst}
+use mathlib.Core.Path.{_≡_, refl, sym, _∙_, ap₂, subst}
 use mathlib.Core.List.{List}
 use mathlib.Core.Logic.{⊎-elim}
 use Prim.Native.Nat.{ℕ, _+_, _-_, _≤_, _<_}
 use native.Mathlib.Omega.{arith}
-use lib.ListN.{length, getD, set, length-set}
+use lib.ListN.{length, set, length-set}
 use lib.Seq.{getD-set-same}
 use mir.Val.{toZ, ofZ}
 use mir.Facts.{toZ-ofZ}
 use mir.Syntax.{w32}
-use Rattle.eisenstein.specs.Values.{ℤ[ω], value, same}
+use Rattle.eisenstein.specs.Values.{ℤ[ω], value}
 use Rattle.polynomials.specs.Polynomials.{coefficient}
 use Rattle.unit_products.specs.Rotations.{Places}
 use Rattle.unit_products.proofs.PlacesOf.{places-none, places-kept, places-more, places-same}

@@ -5,11 +5,10 @@ use native.Mathlib.Omega.{arith}
 use borrow.Author.Needs.{needs}
 use lib.IntN.{natAbs}
 use Rattle.eisenstein.specs.Values.{_*ω_}
-use Rattle.polynomials.specs.Polynomials.{coefficient, array, sum, convolution}
+use Rattle.polynomials.specs.Polynomials.{coefficient}
 use Rattle.polynomials.proofs.Arrays.{array-same}
 use Rattle.polynomials.proofs.Eisenstein.{sum-same}
 use Rattle.polynomials.proofs.Promises.{convolution-single}
-use Rattle.unit_products.specs.Rotations.{run}
 use Rattle.unit_products.proofs.RotatedSums.{run-is, twice-below}
 use Rattle.unit_products.proofs.rotations.multiply_with.Statement.{statement}
 use Rattle.unit_products.proofs.rotations.multiply_with.Tie as tie
