@@ -6,7 +6,7 @@ ghost use Rattle.eisenstein.specs.Values.{value, same};
 ghost use Rattle.polynomials.specs.Polynomials.{coefficient};
 ghost use Rattle.unit_products.specs.Rotations.{Places};
 
-// Whether coefficient i is (a, b). Both parts are read before either is asked, so that no jump of the compiled loop hangs on x.
+// Whether coefficient i is (a, b).
 fn coefficient_is(x: &[i32], i: usize, a: i32, b: i32) -> bool
     requires { ⌜ (i < 1024) × (2 * i + 1 < length (now x)) ⌝ }
     ensures { λ r. ⌜ r ≡ same (coefficient (now (x .entry)) i) (value a b) ⌝ }
