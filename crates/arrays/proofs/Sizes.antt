@@ -71,27 +71,27 @@ from-parts b N l e h k = go (decLe (2 * N) k)
 pub within-parts : (x : ℤ[ω]) → Within 1 x → PartsAtMost 1 x
 within-parts x w = (square-le (omega (arith, part-a x, w .within)), square-le (omega (arith, part-b x, w .within)))
 
-within-one : (x : ℤ[ω]) → Within 1 x → PartsAtMost 8191 x
+within-one : (x : ℤ[ω]) → Within 1 x → PartsAtMost 5461 x
 within-one x w = let p = within-parts x w in (le-trans (p .0) (lit≤ tt), le-trans (p .1) (lit≤ tt))
 
 pub units-small : (N t : ℕ) (l : List ℤ) → length l ≡ 2 * N → T (unitsOnly N t (coefficient l)) → Small l
-units-small N t l e u = from-parts 8191 N l e (λ i p. within-one (coefficient l i) (units-within N t (coefficient l) u i p))
+units-small N t l e u = from-parts 5461 N l e (λ i p. within-one (coefficient l i) (units-within N t (coefficient l) u i p))
 
 pub reduced2-small : (N : ℕ) (l : List ℤ) → length l ≡ 2 * N → T (reduced2 N (coefficient l)) → Small l
-reduced2-small N l e u = from-parts 8191 N l e (λ i p. within-one (coefficient l i) (reduced2-within N (coefficient l) u i p))
+reduced2-small N l e u = from-parts 5461 N l e (λ i p. within-one (coefficient l i) (reduced2-within N (coefficient l) u i p))
 
 -- ---- remainders modulo q
 
-modQ-small : (q x : ℤ[ω]) → beyond 4095 q ≡ false → q ≢ 𝟘 → PartsAtMost 8191 (modQ q x)
+modQ-small : (q x : ℤ[ω]) → beyond 4095 q ≡ false → q ≢ 𝟘 → PartsAtMost 5461 (modQ q x)
 modQ-small q x b n =
     let k = within 4095 q b in
     remainder-size q x (modQ q x) n (k .0) (k .1) (modQ-is-remainder q x n)
 
 pub reducedQ-small : (N : ℕ) (q : ℤ[ω]) (l : List ℤ) → beyond 4095 q ≡ false → q ≢ 𝟘 → length l ≡ 2 * N → T (reducedQ N q (coefficient l)) → Small l
-reducedQ-small N q l b n e u = from-parts 8191 N l e (λ i p. subst (PartsAtMost 8191) (reducedQ-at N q (coefficient l) u i p) (modQ-small q (coefficient l i) b n))
+reducedQ-small N q l b n e u = from-parts 5461 N l e (λ i p. subst (PartsAtMost 5461) (reducedQ-at N q (coefficient l) u i p) (modQ-small q (coefficient l i) b n))
 
 pub remainders-small : (N : ℕ) (q : ℤ[ω]) (x : Polynomial) → beyond 4095 q ≡ false → q ≢ 𝟘 → Small (array N (λ i. modQ q (x i)))
-remainders-small N q x b n = from-parts 8191 N (array N (λ i. modQ q (x i))) (array-length N (λ i. modQ q (x i))) (λ i p. subst (PartsAtMost 8191) (sym (coefficient-array N (λ i. modQ q (x i)) i p)) (modQ-small q (x i) b n))
+remainders-small N q x b n = from-parts 5461 N (array N (λ i. modQ q (x i))) (array-length N (λ i. modQ q (x i))) (λ i p. subst (PartsAtMost 5461) (sym (coefficient-array N (λ i. modQ q (x i)) i p)) (modQ-small q (x i) b n))
 
 -- ---- arrays of zeros and units
 

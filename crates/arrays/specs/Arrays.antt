@@ -44,12 +44,12 @@ AllWithin b l = (k : ℕ) → natAbs (getD l k (pos 0)) ≤ b
 unfoldable pub allWithin : ℕ → List ℤ → Bool
 allWithin b l = all (length l) (λ k. not (ltb b (natAbs (getD l k (pos 0)))))
 
--- Numbers that products are formed of: at most 8,191 in size, as every remainder's parts are; four of them have a sum of 16 bits.
+-- Numbers that products are formed of: at most 5,461 in size, as every remainder's parts are; six of them have a sum of 16 bits.
 abbrev pub Small : List ℤ → Type 0
-Small = AllWithin 8191
+Small = AllWithin 5461
 
 abbrev pub allSmall : List ℤ → Bool
-allSmall = allWithin 8191
+allSmall = allWithin 5461
 
 -- An array of N coefficients, N at most 1,024, that are zeros and units alone.
 unfoldable pub unitsArray : ℕ → List ℤ → Bool

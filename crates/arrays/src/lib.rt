@@ -91,11 +91,11 @@ pub fn reduced_modulo_2(x: &[i32], n: u32) -> bool
     sets::all_reduced_modulo_2(x, n as usize)
 }
 
-// Whether each number is at most 8,191 in size.
+// Whether each number is at most 5,461 in size.
 pub fn all_small(x: &[i32]) -> bool
     ensures { λ r. ⌜ r ≡ allSmall (now (x .entry)) ⌝ }
 {
-    limits::numbers_within(x, 8191)
+    limits::numbers_within(x, 5461)
 }
 
 // Whether one array of a parameter set is in a set.

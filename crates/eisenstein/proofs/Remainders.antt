@@ -183,10 +183,10 @@ small-is-remainder q x h = record { in-class = congruent-refl q x; as-good = goo
 
 -- ---- a remainder's parts are small where those of q are
 
-part-size : (m v : ℕ) → 3 * (m * m) ≤ 4 * v → v ≤ 16769025 → m ≤ 8191
+part-size : (m v : ℕ) → 3 * (m * m) ≤ 4 * v → v ≤ 16769025 → m ≤ 5461
 part-size m v h k = square-le (omega arith)
 
-pub remainder-size : (q x r : ℤ[ω]) → q ≢ 𝟘 → natAbs (q .a) ≤ 4095 → natAbs (q .b) ≤ 4095 → Remainder q x r → (natAbs (r .a) ≤ 8191) × (natAbs (r .b) ≤ 8191)
+pub remainder-size : (q x r : ℤ[ω]) → q ≢ 𝟘 → natAbs (q .a) ≤ 4095 → natAbs (q .b) ≤ 4095 → Remainder q x r → (natAbs (r .a) ≤ 5461) × (natAbs (r .b) ≤ 5461)
 remainder-size q x r h k l m =
     let n : norm r ≤ 16769025 = omega (arith, remainder-norm q x r h m, norm-bound q 4095 k l) in
     (part-size (natAbs (r .a)) (norm r) (part-a r) n, part-size (natAbs (r .b)) (norm r) (part-b r) n)

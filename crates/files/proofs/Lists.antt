@@ -115,7 +115,7 @@ set-small p ok ReducedModuloQ x e t = reducedQ-small (p .N) (p .q) x (ok .q-smal
 small-joined : (n : ℕ) (l : List ℤ) → Small (take n l) → Small (drop n l) → Small l
 small-joined n l h r k = go (decLt k n)
   where
-    go : Dec (k < n) → natAbs (getD l k (pos 0)) ≤ 8191
+    go : Dec (k < n) → natAbs (getD l k (pos 0)) ≤ 5461
     go (yes p) = rw getD-take at (h k)
     go (no p) =
         let e : n + (k - n) ≡ k = omega arith in

@@ -16,7 +16,7 @@ use Rattle.heads.specs.Heads.{bytes16, number16, bits16, signed16}
 abbrev pub Fits16 : ℤ → Type 0
 Fits16 z = SFits w16 z
 
-pub fits-small : (z : ℤ) → natAbs z ≤ 8191 → Fits16 z
+pub fits-small : (z : ℤ) → natAbs z ≤ 5461 → Fits16 z
 fits-small z h = sfits-within z h (lit< tt)
 
 -- ---- the bits of a signed number are the machine's

@@ -20,7 +20,7 @@ module _ (N : ℕ) (x y : List ℤ) where
   pub multipliable-holds : (room : ℕ) → N ≤ 1024 → length x ≡ 2 * N → length y ≡ 2 * N → room ≡ 2 * N → zerosAndUnits N (coefficient x) ≡ true → Small y → multipliable N x y room ≡ true
   unfolding multipliable unitsArray
   multipliable-holds room n e f g u s =
-      ap₂ _&&_ (ap₂ _&&_ (le-leb N 1024 n) (ap₂ _&&_ (eq-eqb _ _ e) u)) (ap₂ _&&_ (eq-eqb _ _ f) (ap₂ _&&_ (eq-eqb _ _ g) (all-within 8191 y s)))
+      ap₂ _&&_ (ap₂ _&&_ (le-leb N 1024 n) (ap₂ _&&_ (eq-eqb _ _ e) u)) (ap₂ _&&_ (eq-eqb _ _ f) (ap₂ _&&_ (eq-eqb _ _ g) (all-within 5461 y s)))
 
   pub operands-of : (out : List ℤ) → multipliable N x y (length out) ≡ true → Operands N x y out
   unfolding multipliable unitsArray
@@ -36,7 +36,7 @@ module _ (N : ℕ) (x y : List ℤ) where
         y-long = eqb→eq (length y) (2 * N) (d .0);
         out-long = eqb→eq (length out) (2 * N) (e .0);
         units = is-true (zerosAndUnits N (coefficient x)) (c .1);
-        y-small = are-within 8191 y (e .1);
+        y-small = are-within 5461 y (e .1);
       }
 
 -- ---- what was formed

@@ -39,16 +39,16 @@ module _ {y t : List ℤ} (h : Twice y t) where
           let e : (i + (n - j)) % n ≡ i + (n - j) = mod-eq-of-lt (omega arith) in
           ap₂ value (twice-at _ (2 * ((i + (n - j)) % n)) (omega arith) (inl (omega arith))) (twice-at _ (2 * ((i + (n - j)) % n) + 1) (omega arith) (inl (omega arith)))
 
-  pub twice-below : Small y → AllWithin 8191 t
+  pub twice-below : Small y → AllWithin 5461 t
   twice-below s k = go (decLe (length y) k) (decLe (2 * length y) k)
     where
-      at : (m : ℕ) → getD t k (pos 0) ≡ getD y m (pos 0) → natAbs (getD t k (pos 0)) ≤ 8191
-      at m e = subst (λ (z : ℤ). natAbs z ≤ 8191) (sym e) (s m)
+      at : (m : ℕ) → getD t k (pos 0) ≡ getD y m (pos 0) → natAbs (getD t k (pos 0)) ≤ 5461
+      at m e = subst (λ (z : ℤ). natAbs z ≤ 5461) (sym e) (s m)
 
-      go : Dec (length y ≤ k) → Dec (2 * length y ≤ k) → natAbs (getD t k (pos 0)) ≤ 8191
+      go : Dec (length y ≤ k) → Dec (2 * length y ≤ k) → natAbs (getD t k (pos 0)) ≤ 5461
       go (no p) q = at k (h .first k (omega arith))
       go (yes p) (no q) = at (k - length y) (twice-at k (k - length y) (omega arith) (inr (omega arith)))
-      go (yes p) (yes q) = subst (λ (z : ℤ). natAbs z ≤ 8191) (sym (List·getD-eq-default t (pos 0) (omega (arith, h .long)))) (lit≤ tt)
+      go (yes p) (yes q) = subst (λ (z : ℤ). natAbs z ≤ 5461) (sym (List·getD-eq-default t (pos 0) (omega (arith, h .long)))) (lit≤ tt)
 
 -- ---- numbers added at each place, as a polynomial
 
@@ -88,8 +88,8 @@ sum-four x m =
     ap (λ (z : ℤ[ω]). sum m x +ω (z +ω x (m + 1) +ω x (m + 2) +ω x (m + 3))) (ap x {x = m} {y = m + 0} (omega arith) ∙ sym (+ω-zero (x (m + 0))) ∙ +ω-comm (x (m + 0)) 𝟘)
     ∙ sym (sum-split m 4 x)
 
-module _ (n : ℕ) (t : List ℤ) (small : AllWithin 8191 t) where
-  run-added : (j : ℕ) {l l′ : List ℤ} → length l ≡ 2 * n → Added (λ k. getD t (2 * (n - j) + k) (pos 0)) l l′ → Summed n (run n t j) 8191 l l′
+module _ (n : ℕ) (t : List ℤ) (small : AllWithin 5461 t) where
+  run-added : (j : ℕ) {l l′ : List ℤ} → length l ≡ 2 * n → Added (λ k. getD t (2 * (n - j) + k) (pos 0)) l l′ → Summed n (run n t j) 5461 l l′
   run-added j e h = added-summed {g = λ k. getD t (2 * (n - j) + k) (pos 0)} (λ k. small (2 * (n - j) + k)) e h
 
   pub none-summed : (f : ℕ → ℕ) (m : ℕ) (l : List ℤ) → m ≡ 0 → Rotated n t f m l l
@@ -99,10 +99,10 @@ module _ (n : ℕ) (t : List ℤ) (small : AllWithin 8191 t) where
   pub one-summed : (f : ℕ → ℕ) (m m′ : ℕ) (l₀ l l′ : List ℤ) → length l₀ ≡ 2 * n → m′ ≡ m + 1 → Rotated n t f m l₀ l → Added (λ k. getD t (2 * (n - f m) + k) (pos 0)) l l′ → Rotated n t f m′ l₀ l′
   one-summed f m m′ l₀ l l′ e q h g =
       subst (λ (k : ℕ). Rotated n t f k l₀ l′) (sym q)
-      (summed-more ((m + 1) * 8191) (λ i. sum (m + 1) (λ k. run n t (f k) i)) h (run-added (f m) (h .long ∙ e) g) (omega arith) (λ i. sym (sum-more (λ k. run n t (f k) i) m)))
+      (summed-more ((m + 1) * 5461) (λ i. sum (m + 1) (λ k. run n t (f k) i)) h (run-added (f m) (h .long ∙ e) g) (omega arith) (λ i. sym (sum-more (λ k. run n t (f k) i) m)))
 
   -- four more
-  four-below : (a b c d : ℕ) → natAbs (fourAt t a b c d) ≤ 4 * 8191
+  four-below : (a b c d : ℕ) → natAbs (fourAt t a b c d) ≤ 4 * 5461
   four-below a b c d =
       let x : ℤ = getD t a (pos 0) in
       let y : ℤ = getD t b (pos 0) in
@@ -113,8 +113,8 @@ module _ (n : ℕ) (t : List ℤ) (small : AllWithin 8191 t) where
   pub four-summed : (f : ℕ → ℕ) (m : ℕ) (l₀ l l′ : List ℤ) → length l₀ ≡ 2 * n → Rotated n t f m l₀ l → Added (λ k. fourAt t (2 * (n - f m) + k) (2 * (n - f (m + 1)) + k) (2 * (n - f (m + 2)) + k) (2 * (n - f (m + 3)) + k)) l l′ → Rotated n t f (m + 4) l₀ l′
   unfolding _+ω_
   four-summed f m l₀ l l′ e h g =
-      summed-more ((m + 4) * 8191) (λ i. sum (m + 4) (λ k. run n t (f k) i)) h
-      (added-summed {g = λ k. fourAt t (2 * (n - f m) + k) (2 * (n - f (m + 1)) + k) (2 * (n - f (m + 2)) + k) (2 * (n - f (m + 3)) + k)} {b = 4 * 8191} (λ k. four-below (2 * (n - f m) + k) (2 * (n - f (m + 1)) + k) (2 * (n - f (m + 2)) + k) (2 * (n - f (m + 3)) + k)) (h .long ∙ e) g)
+      summed-more ((m + 4) * 5461) (λ i. sum (m + 4) (λ k. run n t (f k) i)) h
+      (added-summed {g = λ k. fourAt t (2 * (n - f m) + k) (2 * (n - f (m + 1)) + k) (2 * (n - f (m + 2)) + k) (2 * (n - f (m + 3)) + k)} {b = 4 * 5461} (λ k. four-below (2 * (n - f m) + k) (2 * (n - f (m + 1)) + k) (2 * (n - f (m + 2)) + k) (2 * (n - f (m + 3)) + k)) (h .long ∙ e) g)
       (omega arith) (λ i. sum-four (λ k. run n t (f k) i) m)
 
   -- all that a unit brings: by fours, and then the rest

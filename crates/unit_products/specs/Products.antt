@@ -12,7 +12,7 @@ use Rattle.arrays.specs.Arrays.{full, unitsArray, Small, allSmall}
 abbrev pub Forms : {A : Type 0} → Bool → A → Bool → (old new : A) → Type 0
 Forms can value r old new = (r ≡ can) × (new ≡ cond can value old)
 
--- Operands that are multiplied by additions alone: N at most 1,024, three full arrays, zeros and units in x, and numbers of y at most 8,191 in size.
+-- Operands that are multiplied by additions alone: N at most 1,024, three full arrays, zeros and units in x, and numbers of y at most 5,461 in size.
 unfoldable pub multipliable : ℕ → (x y : List ℤ) → ℕ → Bool
 multipliable N x y room = unitsArray N x && (full N (length y) && (full N room && allSmall y))
 

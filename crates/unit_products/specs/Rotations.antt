@@ -67,7 +67,7 @@ pub record Summed (n : ℕ) (x : Polynomial) (b : ℕ) (old new : List ℤ) : Ty
 
 -- `new` is `old` with the rotations by the first m places of a list added
 abbrev pub Rotated : ℕ → List ℤ → (ℕ → ℕ) → ℕ → (old new : List ℤ) → Type 0
-Rotated n twice place m = Summed n (λ i. sum m (λ k. run n twice (place k) i)) (m * 8191)
+Rotated n twice place m = Summed n (λ i. sum m (λ k. run n twice (place k) i)) (m * 5461)
 
 -- sums of 2n numbers at most b in size, what stands twice, and the places by which it is to be rotated
 pub record Summands (n b : ℕ) (sums twice : List ℤ) (places : List ℕ) (count : ℕ) : Type 0 where
@@ -78,4 +78,4 @@ pub record Summands (n b : ℕ) (sums twice : List ℤ) (places : List ℕ) (cou
   pub places-long : n ≤ length places
   pub below : (m : ℕ) → m < count → getD places m 0 < n
   pub sums-below : AllWithin b sums
-  pub twice-below : AllWithin 8191 twice
+  pub twice-below : AllWithin 5461 twice

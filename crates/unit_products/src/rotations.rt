@@ -30,7 +30,7 @@ fn lay_out_twice(y: &[i32], twice: &mut [i16])
 // The sum of four numbers of `twice`, formed in 16 bits.
 fn sum_of_four(twice: &[i16], a: usize, b: usize, c: usize, d: usize) -> i32
     requires { ⌜ (a < length (now twice)) × (b < length (now twice)) × (c < length (now twice)) × (d < length (now twice)) × (length (now twice) ≤ 4096) ⌝ }
-    requires { ⌜ AllWithin 8191 (now twice) ⌝ }
+    requires { ⌜ AllWithin 5461 (now twice) ⌝ }
     ensures { λ r. ⌜ (r ≡ fourAt (now (twice .entry)) a b c d) × (natAbs r ≤ 2 ^ 15) ⌝ }
 {
     (twice[a] + twice[b] + twice[c] + twice[d]) as i32
@@ -39,7 +39,7 @@ fn sum_of_four(twice: &[i16], a: usize, b: usize, c: usize, d: usize) -> i32
 // Adds four runs of `twice`, from places a, b, c and d on, to the sums, which are read and written once for the four.
 fn add_four(sums: &mut [i32], twice: &[i16], a: usize, b: usize, c: usize, d: usize)
     requires { ⌜ Fits a (now sums) (now twice) × Fits b (now sums) (now twice) × Fits c (now sums) (now twice) × Fits d (now sums) (now twice) ⌝ }
-    requires { ⌜ AllWithin (2 ^ 30) (now sums) × AllWithin 8191 (now twice) × (length (now twice) ≤ 4096) ⌝ }
+    requires { ⌜ AllWithin (2 ^ 30) (now sums) × AllWithin 5461 (now twice) × (length (now twice) ≤ 4096) ⌝ }
     ensures { λ _. ⌜ Added (λ k. fourAt (now (twice .entry)) (a + k) (b + k) (c + k) (d + k)) (now (sums .entry)) (now (sums .exit)) ⌝ }
 {
     let mut k = 0;
@@ -51,7 +51,7 @@ fn add_four(sums: &mut [i32], twice: &[i16], a: usize, b: usize, c: usize, d: us
 
 // Adds one run.
 fn add_one(sums: &mut [i32], twice: &[i16], a: usize)
-    requires { ⌜ Fits a (now sums) (now twice) × AllWithin (2 ^ 30) (now sums) × AllWithin 8191 (now twice) × (length (now twice) ≤ 4096) ⌝ }
+    requires { ⌜ Fits a (now sums) (now twice) × AllWithin (2 ^ 30) (now sums) × AllWithin 5461 (now twice) × (length (now twice) ≤ 4096) ⌝ }
     ensures { λ _. ⌜ Added (λ k. getD (now (twice .entry)) (a + k) (pos 0)) (now (sums .entry)) (now (sums .exit)) ⌝ }
 {
     let mut k = 0;
@@ -88,7 +88,7 @@ fn add_fours(sums: &mut [i32], twice: &[i16], n: usize, places: &[u16], count: u
 
 // Adds the rotations by the places after them.
 fn add_rest(sums: &mut [i32], twice: &[i16], n: usize, places: &[u16], from: usize, count: usize)
-    requires { ⌜ (from ≤ count) × Summands n (2 ^ 29 + from * 8191) (now sums) (now twice) (now places) count ⌝ }
+    requires { ⌜ (from ≤ count) × Summands n (2 ^ 29 + from * 5461) (now sums) (now twice) (now places) count ⌝ }
     ensures { λ _. ⌜ Rotated n (now (twice .entry)) (λ m. getD (now (places .entry)) (from + m) 0) (count - from) (now (sums .entry)) (now (sums .exit)) ⌝ }
 {
     let mut m = from;

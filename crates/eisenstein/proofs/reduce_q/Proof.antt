@@ -61,7 +61,7 @@ all-passed c = record {
 nonzero : {s : tie.Start} → Passed s → q s ≢ 𝟘
 nonzero p e = subst T (sym (same-true e) ∙ p .q-some) tt
 
-size : {s : tie.Start} → Passed s → (natAbs (modQ (q s) (x s) .a) ≤ 8191) × (natAbs (modQ (q s) (x s) .b) ≤ 8191)
+size : {s : tie.Start} → Passed s → (natAbs (modQ (q s) (x s) .a) ≤ 5461) × (natAbs (modQ (q s) (x s) .b) ≤ 5461)
 size {s} p =
     let k = within 4095 (q s) (p .q-small) in
     remainder-size (q s) (x s) (modQ (q s) (x s)) (nonzero p) (k .0) (k .1) (modQ-is-remainder (q s) (x s) (nonzero p))
@@ -93,13 +93,13 @@ asked c =
     )
 
 -- a part of it, read back
-back : (m : ℤ) {m′ : ℤ} → m′ ≡ m → natAbs m ≤ 8191 → toZ w64 (ofZ w64 m′) ≡ m
+back : (m : ℤ) {m′ : ℤ} → m′ ≡ m → natAbs m ≤ 5461 → toZ w64 (ofZ w64 m′) ≡ m
 back m e h = ap (λ (k : ℤ). toZ w64 (ofZ w64 k)) e ∙ toZ-ofZ (sfits-within m h (lit< tt))
 
-fits-32 : (m : ℤ) {m′ : ℤ} → m′ ≡ m → natAbs m ≤ 8191 → SFits w32 (toZ w64 (ofZ w64 m′))
+fits-32 : (m : ℤ) {m′ : ℤ} → m′ ≡ m → natAbs m ≤ 5461 → SFits w32 (toZ w64 (ofZ w64 m′))
 fits-32 m e h = subst (SFits w32) (sym (back m e h)) (sfits-within m h (lit< tt))
 
-back-32 : (m : ℤ) {m′ : ℤ} → m′ ≡ m → natAbs m ≤ 8191 → toZ w32 (ofZ w32 (toZ w64 (ofZ w64 m′))) ≡ m
+back-32 : (m : ℤ) {m′ : ℤ} → m′ ≡ m → natAbs m ≤ 5461 → toZ w32 (ofZ w32 (toZ w64 (ofZ w64 m′))) ≡ m
 back-32 m e h = toZ-ofZ (fits-32 m e h) ∙ back m e h
 
 pub reduce-q-spec : {M : Type 1} → statement M

@@ -48,7 +48,7 @@ long c = let s = c .before .before in ap length (c .loop .inv .1) ∙ length-set
 abbrev element : tie.In-loop Inv-loop μ-loop → ℤ
 element c = getD (c .before .before .before .args .numbers .now) (c .before .loop .i) (pos 0)
 
-small : (c : tie.In-loop Inv-loop μ-loop) → natAbs (element c) ≤ 8191
+small : (c : tie.In-loop Inv-loop μ-loop) → natAbs (element c) ≤ 5461
 small c = c .before .before .before .pre .1 (c .before .loop .i)
 
 wide : (c : tie.In-loop Inv-loop μ-loop) → toZ w32 (ofZ w32 (element c)) ≡ element c

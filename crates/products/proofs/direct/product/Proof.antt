@@ -15,16 +15,16 @@ use Rattle.products.proofs.direct.product.Statement.{statement}
 use Rattle.products.proofs.direct.product.Tie as tie
 
 -- a number that was read is within the arrays' bound
-read-bound : (l : List ℤ) (k : ℕ) {z : ℤ} → ((i : ℕ) → natAbs (getD l i (pos 0)) ≤ 8191) → z ≡ getD l k (pos 0) → natAbs z ≤ 8191
-read-bound l k h e = subst (λ (z : ℤ). natAbs z ≤ 8191) (sym e) (h k)
+read-bound : (l : List ℤ) (k : ℕ) {z : ℤ} → ((i : ℕ) → natAbs (getD l i (pos 0)) ≤ 5461) → z ≡ getD l k (pos 0) → natAbs z ≤ 5461
+read-bound l k h e = subst (λ (z : ℤ). natAbs z ≤ 5461) (sym e) (h k)
 
 abbrev ρ : tie.After-at4 → List Leaf
 ρ c =
     let s = c .before .before .before .before in
-    given (c .before .before .before .at .result) 8191 (read-bound (s .args .x .now) (2 * s .args .j) (s .pre .1 .0) (c .before .before .before .at .ensures .0))
-    ∷ given (c .before .before .at2 .result) 8191 (read-bound (s .args .x .now) (2 * s .args .j + 1) (s .pre .1 .0) (c .before .before .at2 .ensures .0))
-    ∷ given (c .before .at3 .result) 8191 (read-bound (s .args .y .now) (2 * s .args .k) (s .pre .1 .1) (c .before .at3 .ensures .0))
-    ∷ given (c .at4 .result) 8191 (read-bound (s .args .y .now) (2 * s .args .k + 1) (s .pre .1 .1) (c .at4 .ensures .0))
+    given (c .before .before .before .at .result) 5461 (read-bound (s .args .x .now) (2 * s .args .j) (s .pre .1 .0) (c .before .before .before .at .ensures .0))
+    ∷ given (c .before .before .at2 .result) 5461 (read-bound (s .args .x .now) (2 * s .args .j + 1) (s .pre .1 .0) (c .before .before .at2 .ensures .0))
+    ∷ given (c .before .at3 .result) 5461 (read-bound (s .args .y .now) (2 * s .args .k) (s .pre .1 .1) (c .before .at3 .ensures .0))
+    ∷ given (c .at4 .result) 5461 (read-bound (s .args .y .now) (2 * s .args .k + 1) (s .pre .1 .1) (c .at4 .ensures .0))
     ∷ []
 
 abbrev xa : Expr

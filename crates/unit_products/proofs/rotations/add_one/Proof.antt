@@ -25,7 +25,7 @@ abbrev μ-loop : tie.MeasureT-loop
 abbrev number : tie.In-loop Inv-loop μ-loop → ℤ
 number c = getD (c .before .before .args .twice .now) (c .before .before .args .a + c .before .loop .k) (pos 0)
 
-small : (c : tie.In-loop Inv-loop μ-loop) → natAbs (number c) ≤ 8191
+small : (c : tie.In-loop Inv-loop μ-loop) → natAbs (number c) ≤ 5461
 small c = c .before .before .pre .2 (c .before .before .args .a + c .before .loop .k)
 
 read : (c : tie.In-loop Inv-loop μ-loop) → toZ w16 (ofZ w16 (number c)) ≡ number c
@@ -36,7 +36,7 @@ abbrev ρ : tie.In-loop Inv-loop μ-loop → List Leaf
 ρ c =
     let l = c .before in
     given (getD (l .loop .sums) (l .loop .k) (pos 0)) (2 ^ 30) (subst (λ (z : ℤ). natAbs z ≤ 2 ^ 30) (sym (l .loop .inv .1 .old (l .loop .k) (omega arith))) (l .before .pre .1 (l .loop .k)))
-    ∷ record { code = toZ w16 (ofZ w16 (number c)); meant = number c; bound = 8191; is = read c; small = small c }
+    ∷ record { code = toZ w16 (ofZ w16 (number c)); meant = number c; bound = 5461; is = read c; small = small c }
     ∷ []
 
 pub add-one-spec : {M : Type 1} → statement M

@@ -18,10 +18,10 @@ use Rattle.unit_products.proofs.rotations.sum_of_four.Tie as tie
 abbrev ρ : tie.Start → List Leaf
 ρ s =
     let l = s .args .twice .now in
-    given (getD l (s .args .a) (pos 0)) 8191 (s .pre .1 (s .args .a))
-    ∷ given (getD l (s .args .b) (pos 0)) 8191 (s .pre .1 (s .args .b))
-    ∷ given (getD l (s .args .c) (pos 0)) 8191 (s .pre .1 (s .args .c))
-    ∷ given (getD l (s .args .d) (pos 0)) 8191 (s .pre .1 (s .args .d))
+    given (getD l (s .args .a) (pos 0)) 5461 (s .pre .1 (s .args .a))
+    ∷ given (getD l (s .args .b) (pos 0)) 5461 (s .pre .1 (s .args .b))
+    ∷ given (getD l (s .args .c) (pos 0)) 5461 (s .pre .1 (s .args .c))
+    ∷ given (getD l (s .args .d) (pos 0)) 5461 (s .pre .1 (s .args .d))
     ∷ []
 
 abbrev four : Expr
