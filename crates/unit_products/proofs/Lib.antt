@@ -2,3 +2,4 @@ pub mod Operands
 mod PlacesOf
 mod RotatedSums
 mod Horner
+mod Blocks

@@ -17,7 +17,7 @@ use Rattle.polynomials.proofs.Eisenstein.{sum-split}
 use Rattle.arrays.specs.Arrays.{AllWithin, Small}
 use Rattle.arrays.proofs.Changing.{Changed}
 use Rattle.arrays.proofs.Scans.{sum-none, sum-more}
-use Rattle.unit_products.specs.Rotations.{Twice, run, runs, fourAt, Places, Added, Summed, Rotated}
+use Rattle.unit_products.specs.Rotations.{Twice, run, runs, sixAt, Places, Filled, Added, Summed, Rotated}
 
 -- ---- an array that stands twice
 
@@ -55,6 +55,9 @@ module _ {y t : List ℤ} (h : Twice y t) where
 pub changed-added : {g : ℕ → ℤ} {l₀ l : List ℤ} {k : ℕ} → Changed (λ m i. getD m i (pos 0)) (λ i. getD l₀ i (pos 0) +ℤ g i) l₀ l k → length l₀ ≤ k → Added g l₀ l
 changed-added h p = record { long = h .long; inside = λ i q. h .new i (omega arith) }
 
+pub changed-filled : {g : ℕ → ℤ} {l₀ l : List ℤ} {k : ℕ} → Changed (λ m i. getD m i (pos 0)) g l₀ l k → length l₀ ≤ k → Filled g l₀ l
+changed-filled h p = record { long = h .long; inside = λ i q. h .new i (omega arith) }
+
 module _ {g : ℕ → ℤ} {b : ℕ} (small : (k : ℕ) → natAbs (g k) ≤ b) where
   pub added-summed : {n : ℕ} {l l′ : List ℤ} → length l ≡ 2 * n → Added g l l′ → Summed n (λ i. value (g (2 * i)) (g (2 * i + 1))) b l l′
   unfolding coefficient _+ω_
@@ -82,11 +85,11 @@ summed-more {x = x} {y = y} {l₀ = l₀} {l = l} d z h g s e = record {
 
 -- ---- rotations one after another
 
-sum-four : (x : Polynomial) (m : ℕ) → sum m x +ω (x m +ω x (m + 1) +ω x (m + 2) +ω x (m + 3)) ≡ sum (m + 4) x
+sum-six : (x : Polynomial) (m : ℕ) → sum m x +ω (x m +ω x (m + 1) +ω x (m + 2) +ω x (m + 3) +ω x (m + 4) +ω x (m + 5)) ≡ sum (m + 6) x
 unfolding sum
-sum-four x m =
-    ap (λ (z : ℤ[ω]). sum m x +ω (z +ω x (m + 1) +ω x (m + 2) +ω x (m + 3))) (ap x {x = m} {y = m + 0} (omega arith) ∙ sym (+ω-zero (x (m + 0))) ∙ +ω-comm (x (m + 0)) 𝟘)
-    ∙ sym (sum-split m 4 x)
+sum-six x m =
+    ap (λ (z : ℤ[ω]). sum m x +ω (z +ω x (m + 1) +ω x (m + 2) +ω x (m + 3) +ω x (m + 4) +ω x (m + 5))) (ap x {x = m} {y = m + 0} (omega arith) ∙ sym (+ω-zero (x (m + 0))) ∙ +ω-comm (x (m + 0)) 𝟘)
+    ∙ sym (sum-split m 6 x)
 
 module _ (n : ℕ) (t : List ℤ) (small : AllWithin 5461 t) where
   run-added : (j : ℕ) {l l′ : List ℤ} → length l ≡ 2 * n → Added (λ k. getD t (2 * (n - j) + k) (pos 0)) l l′ → Summed n (run n t j) 5461 l l′
@@ -101,23 +104,25 @@ module _ (n : ℕ) (t : List ℤ) (small : AllWithin 5461 t) where
       subst (λ (k : ℕ). Rotated n t f k l₀ l′) (sym q)
       (summed-more ((m + 1) * 5461) (λ i. sum (m + 1) (λ k. run n t (f k) i)) h (run-added (f m) (h .long ∙ e) g) (omega arith) (λ i. sym (sum-more (λ k. run n t (f k) i) m)))
 
-  -- four more
-  four-below : (a b c d : ℕ) → natAbs (fourAt t a b c d) ≤ 4 * 5461
-  four-below a b c d =
+  -- six more
+  pub six-below : (a b c d e f : ℕ) → natAbs (sixAt t a b c d e f) ≤ 6 * 5461
+  six-below a b c d e f =
       let x : ℤ = getD t a (pos 0) in
       let y : ℤ = getD t b (pos 0) in
       let z : ℤ = getD t c (pos 0) in
       let w : ℤ = getD t d (pos 0) in
-      omega (arith, natAbs-+ (x +ℤ y +ℤ z) w, natAbs-+ (x +ℤ y) z, natAbs-+ x y, small a, small b, small c, small d)
+      let u : ℤ = getD t e (pos 0) in
+      let v : ℤ = getD t f (pos 0) in
+      omega (arith, natAbs-+ (x +ℤ y +ℤ z +ℤ w +ℤ u) v, natAbs-+ (x +ℤ y +ℤ z +ℤ w) u, natAbs-+ (x +ℤ y +ℤ z) w, natAbs-+ (x +ℤ y) z, natAbs-+ x y, small a, small b, small c, small d, small e, small f)
 
-  pub four-summed : (f : ℕ → ℕ) (m : ℕ) (l₀ l l′ : List ℤ) → length l₀ ≡ 2 * n → Rotated n t f m l₀ l → Added (λ k. fourAt t (2 * (n - f m) + k) (2 * (n - f (m + 1)) + k) (2 * (n - f (m + 2)) + k) (2 * (n - f (m + 3)) + k)) l l′ → Rotated n t f (m + 4) l₀ l′
+  pub six-summed : (f : ℕ → ℕ) (m : ℕ) (l₀ l l′ : List ℤ) → length l₀ ≡ 2 * n → Rotated n t f m l₀ l → Added (λ k. sixAt t (2 * (n - f m) + k) (2 * (n - f (m + 1)) + k) (2 * (n - f (m + 2)) + k) (2 * (n - f (m + 3)) + k) (2 * (n - f (m + 4)) + k) (2 * (n - f (m + 5)) + k)) l l′ → Rotated n t f (m + 6) l₀ l′
   unfolding _+ω_
-  four-summed f m l₀ l l′ e h g =
-      summed-more ((m + 4) * 5461) (λ i. sum (m + 4) (λ k. run n t (f k) i)) h
-      (added-summed {g = λ k. fourAt t (2 * (n - f m) + k) (2 * (n - f (m + 1)) + k) (2 * (n - f (m + 2)) + k) (2 * (n - f (m + 3)) + k)} {b = 4 * 5461} (λ k. four-below (2 * (n - f m) + k) (2 * (n - f (m + 1)) + k) (2 * (n - f (m + 2)) + k) (2 * (n - f (m + 3)) + k)) (h .long ∙ e) g)
-      (omega arith) (λ i. sum-four (λ k. run n t (f k) i) m)
+  six-summed f m l₀ l l′ e h g =
+      summed-more ((m + 6) * 5461) (λ i. sum (m + 6) (λ k. run n t (f k) i)) h
+      (added-summed {g = λ k. sixAt t (2 * (n - f m) + k) (2 * (n - f (m + 1)) + k) (2 * (n - f (m + 2)) + k) (2 * (n - f (m + 3)) + k) (2 * (n - f (m + 4)) + k) (2 * (n - f (m + 5)) + k)} {b = 6 * 5461} (λ k. six-below (2 * (n - f m) + k) (2 * (n - f (m + 1)) + k) (2 * (n - f (m + 2)) + k) (2 * (n - f (m + 3)) + k) (2 * (n - f (m + 4)) + k) (2 * (n - f (m + 5)) + k)) (h .long ∙ e) g)
+      (omega arith) (λ i. sum-six (λ k. run n t (f k) i) m)
 
-  -- all that a unit brings: by fours, and then the rest
+  -- all that a unit brings: by sixes, and then the rest
   pub unit-summed : {u : ℤ[ω]} {x : Polynomial} (places : List ℕ) (count r : ℕ) {l₀ l l′ : List ℤ} → n ≤ 1024 → Places n u x places count → r ≤ count → Rotated n t (λ m. getD places m 0) r l₀ l → Rotated n t (λ m. getD places (r + m) 0) (count - r) l l′ → Summed n (runs n t u x) (2 ^ 23) l₀ l′
   unit-summed {u} {x} places count r q k p h g =
       summed-more (2 ^ 23) (runs n t u x) h g (omega (arith, k .few))

@@ -46,13 +46,24 @@ pub record Places (n : ℕ) (u : ℤ[ω]) (x : Polynomial) (places : List ℕ) (
   pub below : (m : ℕ) → m < count → getD places m 0 < n
   pub sums : (f : Polynomial) → sum count (λ m. f (getD places m 0)) ≡ sum n (λ j. is u (x j) *ω f j)
 
--- the sum of the numbers at four places
-abbrev pub fourAt : List ℤ → (a b c d : ℕ) → ℤ
-fourAt l a b c d = getD l a (pos 0) +ℤ getD l b (pos 0) +ℤ getD l c (pos 0) +ℤ getD l d (pos 0)
+-- the sum of the numbers at six places
+abbrev pub sixAt : List ℤ → (a b c d e f : ℕ) → ℤ
+sixAt l a b c d e f =
+    getD l a (pos 0) +ℤ getD l b (pos 0) +ℤ getD l c (pos 0) +ℤ getD l d (pos 0) +ℤ getD l e (pos 0) +ℤ getD l f (pos 0)
 
 -- from place a on there are as many numbers as sums
 abbrev pub Fits : ℕ → (sums numbers : List ℤ) → Type 0
 Fits a sums numbers = a + length sums ≤ length numbers
+
+-- so from each of six places
+abbrev pub SixFit : (a b c d e f : ℕ) → (sums numbers : List ℤ) → Type 0
+SixFit a b c d e f sums numbers =
+    Fits a sums numbers × Fits b sums numbers × Fits c sums numbers × Fits d sums numbers × Fits e sums numbers × Fits f sums numbers
+
+-- `new`, as long as `old`, is the numbers
+pub record Filled (numbers : ℕ → ℤ) (old new : List ℤ) : Type 0 where
+  pub long : length new ≡ length old
+  pub inside : (k : ℕ) → k < length old → getD new k (pos 0) ≡ numbers k
 
 -- `new` is `old` with a number added at each place
 pub record Added (numbers : ℕ → ℤ) (old new : List ℤ) : Type 0 where

@@ -9,7 +9,7 @@ ghost use Rattle.eisenstein.specs.Values.{value, _*ω_};
 ghost use Rattle.polynomials.specs.Polynomials.{coefficient, array, sum, convolution, zerosAndUnits};
 ghost use Rattle.arrays.specs.Arrays.{AllWithin, Small};
 ghost use Rattle.unit_products.specs.Products.{Operands};
-ghost use Rattle.unit_products.specs.Rotations.{ζ, PartsBelow, Zeros, Twice, run, runs, fourAt, Fits, Added, Summed, Rotated, Summands};
+ghost use Rattle.unit_products.specs.Rotations.{ζ, PartsBelow, Zeros, Twice, run, runs, sixAt, Fits, SixFit, Filled, Added, Summed, Rotated, Summands};
 use crate::places::places_of;
 
 // Lays y out twice, once after the other, so that each rotation of it is one run of numbers.
@@ -27,37 +27,114 @@ fn lay_out_twice(y: &[i32], twice: &mut [i16])
     }
 }
 
-// The sum of four numbers of `twice`, formed in 16 bits.
-fn sum_of_four(twice: &[i16], a: usize, b: usize, c: usize, d: usize) -> i32
-    requires { ⌜ (a < length (now twice)) × (b < length (now twice)) × (c < length (now twice)) × (d < length (now twice)) × (length (now twice) ≤ 4096) ⌝ }
+// The sum of six numbers of `twice`, formed in 16 bits.
+fn sum_of_six(twice: &[i16], a: usize, b: usize, c: usize, d: usize, e: usize, f: usize) -> i16
+    requires { ⌜ (a < length (now twice)) × (b < length (now twice)) × (c < length (now twice)) × (d < length (now twice)) × (e < length (now twice)) × (f < length (now twice)) ⌝ }
     requires { ⌜ AllWithin 5461 (now twice) ⌝ }
-    ensures { λ r. ⌜ (r ≡ fourAt (now (twice .entry)) a b c d) × (natAbs r ≤ 2 ^ 15) ⌝ }
+    ensures { λ r. ⌜ (r ≡ sixAt (now (twice .entry)) a b c d e f) × (natAbs r ≤ 32766) ⌝ }
 {
-    (twice[a] + twice[b] + twice[c] + twice[d]) as i32
+    twice[a] + twice[b] + twice[c] + twice[d] + twice[e] + twice[f]
 }
 
-// Adds four runs of `twice`, from places a, b, c and d on, to the sums, which are read and written once for the four.
-fn add_four(sums: &mut [i32], twice: &[i16], a: usize, b: usize, c: usize, d: usize)
-    requires { ⌜ Fits a (now sums) (now twice) × Fits b (now sums) (now twice) × Fits c (now sums) (now twice) × Fits d (now sums) (now twice) ⌝ }
-    requires { ⌜ AllWithin (2 ^ 30) (now sums) × AllWithin 5461 (now twice) × (length (now twice) ≤ 4096) ⌝ }
-    ensures { λ _. ⌜ Added (λ k. fourAt (now (twice .entry)) (a + k) (b + k) (c + k) (d + k)) (now (sums .entry)) (now (sums .exit)) ⌝ }
+// The sums of six runs of `twice`, from places a to f on, to a block of numbers. With numbers of 16 bits alone, eight are added at once.
+fn sum_runs(
+    block: &mut [i16],
+    twice: &[i16],
+    a: usize,
+    b: usize,
+    c: usize,
+    d: usize,
+    e: usize,
+    f: usize,
+)
+    requires { ⌜ SixFit a b c d e f (now block) (now twice) ⌝ }
+    requires { ⌜ AllWithin 5461 (now twice) × (length (now twice) ≤ 4096) ⌝ }
+    ensures { λ _. ⌜ Filled (λ k. sixAt (now (twice .entry)) (a + k) (b + k) (c + k) (d + k) (e + k) (f + k)) (now (block .entry)) (now (block .exit)) ⌝ }
 {
     let mut k = 0;
-    while k < sums.len() {
-        sums[k] += sum_of_four(twice, a + k, b + k, c + k, d + k);
+    while k < block.len() {
+        block[k] = sum_of_six(twice, a + k, b + k, c + k, d + k, e + k, f + k);
         k += 1;
     }
 }
 
-// Adds one run.
-fn add_one(sums: &mut [i32], twice: &[i16], a: usize)
-    requires { ⌜ Fits a (now sums) (now twice) × AllWithin (2 ^ 30) (now sums) × AllWithin 5461 (now twice) × (length (now twice) ≤ 4096) ⌝ }
-    ensures { λ _. ⌜ Added (λ k. getD (now (twice .entry)) (a + k) (pos 0)) (now (sums .entry)) (now (sums .exit)) ⌝ }
+// Adds one run of numbers, from place a on.
+fn add_run(sums: &mut [i32], numbers: &[i16], a: usize)
+    requires { ⌜ Fits a (now sums) (now numbers) × AllWithin (2 ^ 30) (now sums) × AllWithin 32766 (now numbers) × (length (now numbers) ≤ 4096) ⌝ }
+    ensures { λ _. ⌜ Added (λ k. getD (now (numbers .entry)) (a + k) (pos 0)) (now (sums .entry)) (now (sums .exit)) ⌝ }
 {
     let mut k = 0;
     while k < sums.len() {
-        sums[k] += twice[a + k] as i32;
+        sums[k] += numbers[a + k] as i32;
         k += 1;
+    }
+}
+
+// Adds six runs of `twice`, from places a to f on, to sums that are no more than a block has room for.
+fn add_part(
+    sums: &mut [i32],
+    twice: &[i16],
+    block: &mut [i16],
+    a: usize,
+    b: usize,
+    c: usize,
+    d: usize,
+    e: usize,
+    f: usize,
+)
+    requires { ⌜ SixFit a b c d e f (now sums) (now twice) × (length (now sums) ≤ length (now block)) ⌝ }
+    requires { ⌜ AllWithin (2 ^ 30) (now sums) × AllWithin 5461 (now twice) × (length (now twice) ≤ 4096) ⌝ }
+    ensures { λ _. ⌜ (length (now (block .exit)) ≡ length (now (block .entry)))
+        × Added (λ k. sixAt (now (twice .entry)) (a + k) (b + k) (c + k) (d + k) (e + k) (f + k)) (now (sums .entry)) (now (sums .exit)) ⌝ }
+{
+    let count = sums.len();
+    sum_runs(&mut block[..count], twice, a, b, c, d, e, f);
+    add_run(sums, &block[..count], 0);
+}
+
+// Where the part of the sums ends that begins at k.
+fn part_end(k: usize, all: usize) -> usize
+    requires { ⌜ (k < all) × (all ≤ 4096) ⌝ }
+    ensures { λ r. ⌜ (k < r) × (r ≤ k + 256) × (r ≤ all) ⌝ }
+{
+    if all - k < 256 {
+        return all;
+    }
+    k + 256
+}
+
+// Adds six runs to all sums, a part after another.
+fn add_six(
+    sums: &mut [i32],
+    twice: &[i16],
+    block: &mut [i16],
+    a: usize,
+    b: usize,
+    c: usize,
+    d: usize,
+    e: usize,
+    f: usize,
+)
+    requires { ⌜ SixFit a b c d e f (now sums) (now twice) × (length (now block) ≡ 256) ⌝ }
+    requires { ⌜ AllWithin (2 ^ 30) (now sums) × AllWithin 5461 (now twice) × (length (now twice) ≤ 4096) ⌝ }
+    ensures { λ _. ⌜ (length (now (block .exit)) ≡ length (now (block .entry)))
+        × Added (λ k. sixAt (now (twice .entry)) (a + k) (b + k) (c + k) (d + k) (e + k) (f + k)) (now (sums .entry)) (now (sums .exit)) ⌝ }
+{
+    let mut k = 0;
+    while k < sums.len() {
+        let end = part_end(k, sums.len());
+        add_part(
+            &mut sums[k..end],
+            twice,
+            block,
+            a + k,
+            b + k,
+            c + k,
+            d + k,
+            e + k,
+            f + k,
+        );
+        k = end;
     }
 }
 
@@ -69,19 +146,29 @@ fn start(n: usize, places: &[u16], m: usize) -> usize
     2 * (n - places[m] as usize)
 }
 
-// Adds the rotations by the first places, four at a time, and gives how many.
-fn add_fours(sums: &mut [i32], twice: &[i16], n: usize, places: &[u16], count: usize) -> usize
-    requires { ⌜ Summands n (2 ^ 29) (now sums) (now twice) (now places) count ⌝ }
-    ensures { λ r. ⌜ (r ≤ count) × Rotated n (now (twice .entry)) (λ m. getD (now (places .entry)) m 0) r (now (sums .entry)) (now (sums .exit)) ⌝ }
+// Adds the rotations by the first places, six at a time, and gives how many.
+fn add_sixes(
+    sums: &mut [i32],
+    twice: &[i16],
+    block: &mut [i16],
+    n: usize,
+    places: &[u16],
+    count: usize,
+) -> usize
+    requires { ⌜ Summands n (2 ^ 29) (now sums) (now twice) (now places) count × (length (now block) ≡ 256) ⌝ }
+    ensures { λ r. ⌜ (length (now (block .exit)) ≡ length (now (block .entry)))
+        × (r ≤ count) × Rotated n (now (twice .entry)) (λ m. getD (now (places .entry)) m 0) r (now (sums .entry)) (now (sums .exit)) ⌝ }
 {
     let mut m = 0;
-    while m + 4 <= count {
+    while m + 6 <= count {
         let a = start(n, places, m);
         let b = start(n, places, m + 1);
         let c = start(n, places, m + 2);
         let d = start(n, places, m + 3);
-        add_four(sums, twice, a, b, c, d);
-        m += 4;
+        let e = start(n, places, m + 4);
+        let f = start(n, places, m + 5);
+        add_six(sums, twice, block, a, b, c, d, e, f);
+        m += 6;
     }
     m
 }
@@ -94,7 +181,7 @@ fn add_rest(sums: &mut [i32], twice: &[i16], n: usize, places: &[u16], from: usi
     let mut m = from;
     while m < count {
         let a = start(n, places, m);
-        add_one(sums, twice, a);
+        add_run(sums, twice, a);
         m += 1;
     }
 }
@@ -107,14 +194,15 @@ fn add_unit(
     ub: i32,
     twice: &[i16],
     places: &mut [u16],
+    block: &mut [i16],
     sums: &mut [i32],
 )
-    requires { ⌜ (length (now x) ≡ 2 * n) × Summands n (2 ^ 29) (now sums) (now twice) (now places) 0 ⌝ }
-    ensures { λ _. ⌜ (length (now (places .exit)) ≡ length (now (places .entry)))
+    requires { ⌜ (length (now x) ≡ 2 * n) × Summands n (2 ^ 29) (now sums) (now twice) (now places) 0 × (length (now block) ≡ 256) ⌝ }
+    ensures { λ _. ⌜ (length (now (places .exit)) ≡ length (now (places .entry))) × (length (now (block .exit)) ≡ length (now (block .entry)))
         × Summed n (runs n (now (twice .entry)) (value ua ub) (coefficient (now (x .entry)))) (2 ^ 23) (now (sums .entry)) (now (sums .exit)) ⌝ }
 {
     let count = places_of(x, n, ua, ub, places);
-    let done = add_fours(sums, twice, n, places, count);
+    let done = add_sixes(sums, twice, block, n, places, count);
     add_rest(sums, twice, n, places, done, count);
 }
 
@@ -143,8 +231,16 @@ fn turn(x: &mut [i32], n: usize)
 }
 
 // Adds what every unit brings, to sums that are zero.
-fn add_units(x: &[i32], n: usize, twice: &[i16], places: &mut [u16], sums: &mut [i32])
-    requires { ⌜ (length (now x) ≡ 2 * n) × (zerosAndUnits n (coefficient (now x)) ≡ true) × Zeros (now sums) × Summands n 0 (now sums) (now twice) (now places) 0 ⌝ }
+fn add_units(
+    x: &[i32],
+    n: usize,
+    twice: &[i16],
+    places: &mut [u16],
+    block: &mut [i16],
+    sums: &mut [i32],
+)
+    requires { ⌜ (length (now x) ≡ 2 * n) × (zerosAndUnits n (coefficient (now x)) ≡ true) × (length (now block) ≡ 256) ⌝ }
+    requires { ⌜ Zeros (now sums) × Summands n 0 (now sums) (now twice) (now places) 0 ⌝ }
     ensures { λ _. ⌜ now (sums .exit) ≡ array n (λ i. sum n (λ j. coefficient (now (x .entry)) j *ω run n (now (twice .entry)) j i)) ⌝ }
 {
     let mut k = 6;
@@ -154,7 +250,7 @@ fn add_units(x: &[i32], n: usize, twice: &[i16], places: &mut [u16], sums: &mut 
         let u = eisenstein::unit(k);
         let a = u.a;
         let b = u.b;
-        add_unit(x, n, a, b, twice, places, sums);
+        add_unit(x, n, a, b, twice, places, block, sums);
     }
 }
 
@@ -168,21 +264,29 @@ fn clear(out: &mut [i32])
     }
 }
 
-// x × y, to out, with room for y twice and for the places.
+// x × y, to out, with room for y twice, for the places and for a block of sums.
 fn multiply_with(
     x: &[i32],
     y: &[i32],
     n: usize,
     twice: &mut [i16],
     places: &mut [u16],
+    block: &mut [i16],
     out: &mut [i32],
 )
-    requires { ⌜ Operands n (now x) (now y) (now out) × (length (now twice) ≡ 2 * (2 * n)) × (n ≤ length (now places)) ⌝ }
+    requires { ⌜ Operands n (now x) (now y) (now out) × (length (now twice) ≡ 2 * (2 * n)) × (n ≤ length (now places)) × (length (now block) ≡ 256) ⌝ }
     ensures { λ _. ⌜ now (out .exit) ≡ array n (convolution n (coefficient (now (x .entry))) (coefficient (now (y .entry)))) ⌝ }
 {
     lay_out_twice(y, twice);
     clear(out);
-    add_units(x, n, twice, places, out);
+    add_units(x, n, twice, places, block, out);
+}
+
+// Room for the sums of six runs.
+fn room_for_block() -> [i16; 256]
+    ensures { λ r. ⌜ length r ≡ 256 ⌝ }
+{
+    [0i16; 256]
 }
 
 // Room for an array twice and for the places of all its coefficients, at the largest N 10 KiB. For N up to 128 there is a room of 1.25 KiB,
@@ -217,7 +321,8 @@ fn convolve_few(x: &[i32], y: &[i32], n: usize, out: &mut [i32])
 {
     let mut twice = small_room_for_twice();
     let mut places = small_room_for_places();
-    multiply_with(x, y, n, &mut twice[..4 * n], &mut places, out);
+    let mut block = room_for_block();
+    multiply_with(x, y, n, &mut twice[..4 * n], &mut places, &mut block, out);
 }
 
 fn convolve_many(x: &[i32], y: &[i32], n: usize, out: &mut [i32])
@@ -226,7 +331,8 @@ fn convolve_many(x: &[i32], y: &[i32], n: usize, out: &mut [i32])
 {
     let mut twice = room_for_twice();
     let mut places = room_for_places();
-    multiply_with(x, y, n, &mut twice[..4 * n], &mut places, out);
+    let mut block = room_for_block();
+    multiply_with(x, y, n, &mut twice[..4 * n], &mut places, &mut block, out);
 }
 
 // x × y, to out.

@@ -2,6 +2,8 @@
 use mathlib.Core.Path.{_≡_, sym, _∙_, ap, subst}
 use Prim.Native.Nat.{ℕ, _+_, _-_, _*_, _≤_}
 use native.Mathlib.Omega.{arith}
+use native.Mathlib.Nat.{le-trans}
+use lib.Dec.{lit≤}
 use lib.IntN.{pos}
 use lib.ListN.{getD}
 use Rattle.unit_products.specs.Rotations.{Added, Rotated}
@@ -36,7 +38,7 @@ add-rest-spec =
     let s = l .before .before in
     let h = s .pre .1 in
     let g = l .loop .inv .2 in
-    (omega (arith, c .before .start .ensures, h .twice-long, h .long, g .long), λ k. omega (arith, g .grown k, h .sums-below k, l .loop .inv .0, l .loop .inv .1, h .few, h .N-small), h .twice-below, omega (arith, h .twice-long, h .N-small)))
+    (omega (arith, c .before .start .ensures, h .twice-long, h .long, g .long), λ k. omega (arith, g .grown k, h .sums-below k, l .loop .inv .0, l .loop .inv .1, h .few, h .N-small), (λ k. le-trans (h .twice-below k) (lit≤ tt)), omega (arith, h .twice-long, h .N-small)))
     (λ c. omega (arith, c .before .before .before .before .loop-test .taken))
     (λ c. omega (arith, c .before .before .before .before .loop-test .taken))
     (λ c.
@@ -49,8 +51,8 @@ add-rest-spec =
     let e : s .args .from + m ≡ l .loop .m = omega (arith, l .loop .inv .0) in (
       omega (arith, l .loop .inv .0),
       omega (arith, taken),
-      one-summed (s .args .n) (s .args .twice .now) (h .twice-below) (place s) m (l .loop .m + 1 - s .args .from) (s .args .sums .now) (l .loop .sums) (r .add-one .last .0) (h .long) (omega (arith, l .loop .inv .0)) (l .loop .inv .2)
-          (subst (λ (a : ℕ). Added (λ k. getD (s .args .twice .now) (a + k) (pos 0)) (l .loop .sums) (r .add-one .last .0)) (r .before .before .start .ensures ∙ ap (λ (k : ℕ). 2 * (s .args .n - getD (s .args .places .now) k 0)) (sym e)) (r .add-one .ensures)),
+      one-summed (s .args .n) (s .args .twice .now) (h .twice-below) (place s) m (l .loop .m + 1 - s .args .from) (s .args .sums .now) (l .loop .sums) (r .add-run .last .0) (h .long) (omega (arith, l .loop .inv .0)) (l .loop .inv .2)
+          (subst (λ (a : ℕ). Added (λ k. getD (s .args .twice .now) (a + k) (pos 0)) (l .loop .sums) (r .add-run .last .0)) (r .before .before .start .ensures ∙ ap (λ (k : ℕ). 2 * (s .args .n - getD (s .args .places .now) k 0)) (sym e)) (r .add-run .ensures)),
     ))
     (λ c. c .before .loop .inv .2 .long)
     (λ c.

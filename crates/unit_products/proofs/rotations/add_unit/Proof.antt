@@ -41,17 +41,24 @@ add-unit-spec =
     tie.close
     (tie.spec
     (λ c κs. let s = c .before .before in (s .pre .1 .N-small, s .pre .0, s .pre .1 .places-long))
-    (λ c κs. let p = c .before .before .before .before in let h = p .before .before .before .pre .1 in summands p (2 ^ 29) _ (h .long) (h .sums-below))
     (λ c κs.
-    let f = c .before .before .before in
-    let p = f .before .before .before .before .before in
+    let p = c .before .before .before .before .before in
+    let h = p .before .before .before .pre in
+    (summands p (2 ^ 29) _ (h .1 .long) (h .1 .sums-below), h .2))
+    (λ c κs.
+    let f = c .before .before .before .before in
+    let p = f .before .before .before .before .before .before in
     let h = p .before .before .before .pre .1 in
-    (f .add-fours .ensures .0, summands p _ _ (f .add-fours .ensures .1 .long ∙ h .long) (λ k. omega (arith, f .add-fours .ensures .1 .grown k, h .sums-below k))))
-    (λ c. c .before .before .before .before .before .before .before .before .before .before .places-of .ensures .0)
-    (λ c. c .before .add-rest .ensures .long ∙ c .before .before .before .before .before .add-fours .ensures .1 .long)
+    (f .add-sixes .ensures .1, summands p _ _ (f .add-sixes .ensures .2 .long ∙ h .long) (λ k. omega (arith, f .add-sixes .ensures .2 .grown k, h .sums-below k))))
+    (λ c. c .before .before .before .before .before .before .before .before .before .before .before .before .places-of .ensures .0)
+    (λ c. c .before .before .before .before .before .before .add-sixes .ensures .0)
+    (λ c. c .before .add-rest .ensures .long ∙ c .before .before .before .before .before .before .add-sixes .ensures .2 .long)
     (λ c.
     let r = c .before in
-    let f = r .before .before .before .before in
-    let p = f .before .before .before .before .before in
-    let s = p .before .before .before in
-    (p .places-of .ensures .0, unit-summed (s .args .n) (s .args .twice .now) (s .pre .1 .twice-below) (p .places-of .last .1 .1 .1 .1 .0) (p .places-of .result) (f .add-fours .result) (s .pre .1 .N-small) (listed p) (f .add-fours .ensures .0) (f .add-fours .ensures .1) (r .add-rest .ensures))))
+    let f = r .before .before .before .before .before in
+    let p = f .before .before .before .before .before .before in
+    let s = p .before .before .before in (
+      p .places-of .ensures .0,
+      f .add-sixes .ensures .0,
+      unit-summed (s .args .n) (s .args .twice .now) (s .pre .1 .twice-below) (p .places-of .last .1 .1 .1 .1 .0) (p .places-of .result) (f .add-sixes .result) (s .pre .1 .N-small) (listed p) (f .add-sixes .ensures .1) (f .add-sixes .ensures .2) (r .add-rest .ensures),
+    )))

@@ -16,10 +16,11 @@ use Rattle.unit_products.proofs.rotations.add_units.Statement.{statemen
 use Rattle.unit_products.proofs.rotations.add_units.Tie as tie
 
 abbrev Inv-loop : tie.InvT-loop
-Inv-loop x n twice places₀ sums₀ k₀ places sums k = (k ≤ 6) × (length places ≡ length places₀) × After n (coefficient x) twice (6 - k) sums
+Inv-loop x n twice places₀ block₀ sums₀ k₀ places block sums k =
+    (k ≤ 6) × (length places ≡ length places₀) × (length block ≡ length block₀) × After n (coefficient x) twice (6 - k) sums
 
 abbrev μ-loop : tie.MeasureT-loop
-μ-loop x n twice places₀ sums₀ k₀ places sums k = k
+μ-loop x n twice places₀ block₀ sums₀ k₀ places block sums k = k
 
 -- the unit as it is handed on
 handed : (u : tie.After-unit Inv-loop μ-loop) → value (toZ w32 (ofZ w32 (u .unit .result .a))) (toZ w32 (ofZ w32 (u .unit .result .b))) ≡ value (u .unit .result .a) (u .unit .result .b)
@@ -31,36 +32,37 @@ add-units-spec =
     (tie.spec
     Inv-loop
     μ-loop
-    (λ c. let s = c .before in (omega arith, refl, after-none (s .args .n) (coefficient (s .args .x .now)) (s .args .twice .now) (s .args .sums .now) (s .pre .3 .long) (s .pre .2)))
+    (λ c. let s = c .before in (omega arith, refl, refl, after-none (s .args .n) (coefficient (s .args .x .now)) (s .args .twice .now) (s .args .sums .now) (s .pre .1 .1 .long) (s .pre .1 .0)))
     (λ c. omega (arith, c .loop-test .taken))
     (λ c κs.
     let l = c .before .before in
     let s = l .before .before in
-    let h = l .loop .inv .2 in
-    ((s .pre .3 .N-small, h .long), λ i. omega (arith, h .below i, still-small (6 - l .loop .k) (omega (arith, c .before .loop-test .taken)))))
+    let h = l .loop .inv .3 in
+    ((s .pre .1 .1 .N-small, h .long), λ i. omega (arith, h .below i, still-small (6 - l .loop .k) (omega (arith, c .before .loop-test .taken)))))
     (λ c κs. tt)
     (λ c κs.
-    let r = c .before .before .before .before .before .before in
+    let r = c .before .before .before .before .before .before .before in
     let l = r .before .before .before in
     let s = l .before .before in
-    let h = l .loop .inv .2 in
+    let h = l .loop .inv .3 in
     let k = turned-below (s .args .n) (grown (6 - l .loop .k)) (l .loop .sums) (r .turn .ensures) (h .below) in (
-      s .pre .0,
+      s .pre .0 .0,
       record {
-        N-small = s .pre .3 .N-small;
+        N-small = s .pre .1 .1 .N-small;
         long = k .0;
-        twice-long = s .pre .3 .twice-long;
+        twice-long = s .pre .1 .1 .twice-long;
         few = omega arith;
-        places-long = omega (arith, s .pre .3 .places-long, l .loop .inv .1);
+        places-long = omega (arith, s .pre .1 .1 .places-long, l .loop .inv .1);
         below = λ m p. absurd (omega arith);
         sums-below = λ i. omega (arith, k .1 i, still-small (6 - l .loop .k) (omega (arith, r .before .before .loop-test .taken)));
-        twice-below = s .pre .3 .twice-below;
+        twice-below = s .pre .1 .1 .twice-below;
       },
+      l .loop .inv .2 ∙ s .pre .0 .2,
     ))
-    (λ c. omega (arith, c .before .before .before .before .before .before .before .before .before .before .before .before .loop-test .taken))
+    (λ c. omega (arith, c .before .before .before .before .before .before .before .before .before .before .before .before .before .before .loop-test .taken))
     (λ c.
-    let a = c .before .before .before in
-    let u = a .before .before .before .before .before in
+    let a = c .before .before .before .before in
+    let u = a .before .before .before .before .before .before in
     let r = u .before .before in
     let l = r .before .before .before in
     let s = l .before .before in
@@ -71,13 +73,15 @@ add-units-spec =
     let x = coefficient (s .args .x .now) in (
       omega (arith, l .loop .inv .0),
       a .add-unit .ensures .0 ∙ l .loop .inv .1,
-      subst (λ (k : ℕ). After (s .args .n) x (s .args .twice .now) k (a .add-unit .last .1 .1 .1 .1 .1 .1 .0)) next
-          (after-next (s .args .n) x (s .args .twice .now) m (l .loop .sums) (l .loop .inv .2) (r .turn .ensures)
-          (subst (λ (v : ℤ[ω]). Summed (s .args .n) (runs (s .args .n) (s .args .twice .now) v x) (2 ^ 23) (r .turn .last .0) (a .add-unit .last .1 .1 .1 .1 .1 .1 .0)) (handed u ∙ e) (a .add-unit .ensures .1))),
+      a .add-unit .ensures .1 ∙ l .loop .inv .2,
+      subst (λ (k : ℕ). After (s .args .n) x (s .args .twice .now) k (a .add-unit .last .1 .1 .1 .1 .1 .1 .1 .0)) next
+          (after-next (s .args .n) x (s .args .twice .now) m (l .loop .sums) (l .loop .inv .3) (r .turn .ensures)
+          (subst (λ (v : ℤ[ω]). Summed (s .args .n) (runs (s .args .n) (s .args .twice .now) v x) (2 ^ 23) (r .turn .last .0) (a .add-unit .last .1 .1 .1 .1 .1 .1 .1 .0)) (handed u ∙ e) (a .add-unit .ensures .2))),
     ))
     (λ c. c .before .loop .inv .1)
-    (λ c. c .before .loop .inv .2 .long ∙ sym (c .before .before .before .pre .3 .long))
+    (λ c. c .before .loop .inv .2)
+    (λ c. c .before .loop .inv .3 .long ∙ sym (c .before .before .before .pre .1 .1 .long))
     (λ c.
     let l = c .before in
     let s = l .before .before in
-    after-all (s .args .n) (coefficient (s .args .x .now)) (s .args .twice .now) (l .loop .sums) (s .pre .1) (subst (λ (m : ℕ). After (s .args .n) (coefficient (s .args .x .now)) (s .args .twice .now) m (l .loop .sums)) (omega (arith, c .loop-test .left)) (l .loop .inv .2))))
+    after-all (s .args .n) (coefficient (s .args .x .now)) (s .args .twice .now) (l .loop .sums) (s .pre .0 .1) (subst (λ (m : ℕ). After (s .args .n) (coefficient (s .args .x .now)) (s .args .twice .now) m (l .loop .sums)) (omega (arith, c .loop-test .left)) (l .loop .inv .3))))

@@ -13,16 +13,18 @@ convolve-few-spec =
     (tie.spec
     (λ c κs. tt)
     (λ c κs. tt)
-    (λ c. omega (arith, c .before .before .pre .0))
-    (λ c. omega (arith, c .before .before .pre .0, c .before .small-room-for-twice .ensures))
+    (λ c κs. tt)
+    (λ c. omega (arith, c .before .before .before .pre .0))
+    (λ c. omega (arith, c .before .before .before .pre .0, c .before .before .small-room-for-twice .ensures))
     (λ c.
-    let s = c .before .before .before in
-    let t = c .before .before .small-room-for-twice in
+    let s = c .before .before .before .before in
+    let t = c .before .before .before .small-room-for-twice in
     sym (length-take-le (4 * s .args .n) (t .result) (omega (arith, s .pre .0, t .ensures))))
-    (λ c. sym (c .before .before .small-room-for-places .ensures))
+    (λ c. sym (c .before .before .before .small-room-for-places .ensures))
+    (λ c. sym (c .before .before .before .room-for-block .ensures))
     (λ c κs.
-    let s = c .before .before .before .before .before in
-    let t = c .before .before .before .before .small-room-for-twice in
-    (s .pre .1, length-take-le (4 * s .args .n) (t .result) (omega (arith, s .pre .0, t .ensures)) ∙ omega arith, omega (arith, s .pre .0, c .before .before .before .small-room-for-places .ensures)))
+    let s = c .before .before .before .before .before .before .before in
+    let t = c .before .before .before .before .before .before .small-room-for-twice in
+    (s .pre .1, length-take-le (4 * s .args .n) (t .result) (omega (arith, s .pre .0, t .ensures)) ∙ omega arith, omega (arith, s .pre .0, c .before .before .before .before .before .small-room-for-places .ensures), c .before .before .before .before .room-for-block .ensures))
     (λ c. search needs)
     (λ c. search needs))

@@ -20,30 +20,32 @@ multiply-with-spec =
     (λ c κs. let s = c .before .before in let a = s .pre .0 in ((omega (arith, a .y-long, a .N-small), omega (arith, a .y-long, s .pre .1)), a .y-small))
     (λ c κs. tt)
     (λ c κs.
-    let z = c .before .before .before .before in
+    let z = c .before .before .before .before .before in
     let t = z .before .before .before in
     let s = t .before .before .before in
     let a = s .pre .0 in (
-      a .x-long,
-      a .units,
-      z .clear .ensures .1,
-      record {
-        N-small = a .N-small;
-        long = z .clear .ensures .0 ∙ a .out-long;
-        twice-long = t .lay-out-twice .ensures .long ∙ ap (λ (k : ℕ). 2 * k) (a .y-long);
-        few = omega arith;
-        places-long = s .pre .2;
-        below = λ m p. absurd (omega arith);
-        sums-below = λ k. omega (arith, ap natAbs (z .clear .ensures .1 k));
-        twice-below = twice-below (t .lay-out-twice .ensures) (a .y-small);
-      },
+      (a .x-long, a .units, s .pre .3),
+      (
+        z .clear .ensures .1,
+        record {
+          N-small = a .N-small;
+          long = z .clear .ensures .0 ∙ a .out-long;
+          twice-long = t .lay-out-twice .ensures .long ∙ ap (λ (k : ℕ). 2 * k) (a .y-long);
+          few = omega arith;
+          places-long = s .pre .2;
+          below = λ m p. absurd (omega arith);
+          sums-below = λ k. omega (arith, ap natAbs (z .clear .ensures .1 k));
+          twice-below = twice-below (t .lay-out-twice .ensures) (a .y-small);
+        },
+      ),
     ))
     (λ c. search needs)
     (λ c. search needs)
     (λ c. search needs)
+    (λ c. search needs)
     (λ c.
-    let u = c .before .before .before in
-    let t = u .before .before .before .before .before .before .before .before in
+    let u = c .before .before .before .before in
+    let t = u .before .before .before .before .before .before .before .before .before in
     let s = t .before .before .before in
     let n = s .args .n in
     let x = coefficient (s .args .x .now) in

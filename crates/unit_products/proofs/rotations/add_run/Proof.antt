@@ -1,4 +1,4 @@
--- `add_one` meets its contract. The loop's invariant: the run is added as far as it was walked.
+-- `add_run` meets its contract. The loop's invariant: the run is added as far as it was walked.
 use mathlib.Core.Path.{_≡_, sym, _∙_, ap, subst}
 use mathlib.Core.List.{List, [], _∷_}
 use Prim.Native.Nat.{_+_, _-_, _^_, _≤_}
@@ -13,19 +13,19 @@ use Rattle.integers.proofs.Ring.{var, _⊕_}
 use Rattle.integers.proofs.Machine.{Leaf, given, fits, exact, sfits-within}
 use Rattle.arrays.proofs.Changing.{Changed, changed-none, set-next}
 use Rattle.unit_products.proofs.RotatedSums.{changed-added}
-use Rattle.unit_products.proofs.rotations.add_one.Statement.{statement}
-use Rattle.unit_products.proofs.rotations.add_one.Tie as tie
+use Rattle.unit_products.proofs.rotations.add_run.Statement.{statement}
+use Rattle.unit_products.proofs.rotations.add_run.Tie as tie
 
 abbrev Inv-loop : tie.InvT-loop
-Inv-loop sums₀ twice a k₀ sums k = (k ≤ length sums₀) × Changed (λ m i. getD m i (pos 0)) (λ i. getD sums₀ i (pos 0) +ℤ getD twice (a + i) (pos 0)) sums₀ sums k
+Inv-loop sums₀ numbers a k₀ sums k = (k ≤ length sums₀) × Changed (λ m i. getD m i (pos 0)) (λ i. getD sums₀ i (pos 0) +ℤ getD numbers (a + i) (pos 0)) sums₀ sums k
 
 abbrev μ-loop : tie.MeasureT-loop
-μ-loop sums₀ twice a k₀ sums k = length sums₀ - k
+μ-loop sums₀ numbers a k₀ sums k = length sums₀ - k
 
 abbrev number : tie.In-loop Inv-loop μ-loop → ℤ
-number c = getD (c .before .before .args .twice .now) (c .before .before .args .a + c .before .loop .k) (pos 0)
+number c = getD (c .before .before .args .numbers .now) (c .before .before .args .a + c .before .loop .k) (pos 0)
 
-small : (c : tie.In-loop Inv-loop μ-loop) → natAbs (number c) ≤ 5461
+small : (c : tie.In-loop Inv-loop μ-loop) → natAbs (number c) ≤ 32766
 small c = c .before .before .pre .2 (c .before .before .args .a + c .before .loop .k)
 
 read : (c : tie.In-loop Inv-loop μ-loop) → toZ w16 (ofZ w16 (number c)) ≡ number c
@@ -36,11 +36,11 @@ abbrev ρ : tie.In-loop Inv-loop μ-loop → List Leaf
 ρ c =
     let l = c .before in
     given (getD (l .loop .sums) (l .loop .k) (pos 0)) (2 ^ 30) (subst (λ (z : ℤ). natAbs z ≤ 2 ^ 30) (sym (l .loop .inv .1 .old (l .loop .k) (omega arith))) (l .before .pre .1 (l .loop .k)))
-    ∷ record { code = toZ w16 (ofZ w16 (number c)); meant = number c; bound = 5461; is = read c; small = small c }
+    ∷ record { code = toZ w16 (ofZ w16 (number c)); meant = number c; bound = 32766; is = read c; small = small c }
     ∷ []
 
-pub add-one-spec : {M : Type 1} → statement M
-add-one-spec =
+pub add-run-spec : {M : Type 1} → statement M
+add-run-spec =
     tie.close
     (tie.spec
     Inv-loop
