@@ -10,7 +10,7 @@ ghost use Rattle.parameters.specs.Sets.{set, parameters, made};
 ghost use Rattle.packing.specs.Calls.{packing, unpacking};
 ghost use Rattle.products.specs.Products.{convolving};
 ghost use Rattle.etru.specs.Calls.{keyCheck, sealing, opening};
-ghost use Rattle.heads.specs.Calls.{readingHead};
+ghost use Rattle.head_reading.specs.Calls.{readingHead};
 ghost use Rattle.files.specs.Calls.{reading, writing};
 ghost use Rattle.opening.specs.Program.{lineWriting, lineLength};
 use eisenstein::Reduced;
@@ -196,7 +196,7 @@ pub extern "C" fn etru_read_head(
         (set (now (n .entry)) (now (c .entry)) (now (d .entry)) (now (s .entry)) (now (t .entry)))
         (set (now (n .exit)) (now (c .exit)) (now (d .exit)) (now (s .exit)) (now (t .exit))) ⌝ }
 {
-    give_parameters(heads::read_head(kind, file), n, c, d, s, t)
+    give_parameters(head_reading::read_head(kind, file), n, c, d, s, t)
 }
 
 // The arrays of a file of the wanted kind, one after another in stored order, to numbers.

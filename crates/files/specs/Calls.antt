@@ -11,7 +11,7 @@ use Rattle.arrays.specs.declared.ArraySet.{ArraySet}
 use Rattle.arrays.specs.Arrays.{inSet, notInSet}
 use Rattle.heads.specs.Kinds.{arraysOf, knownKind}
 use Rattle.heads.specs.Heads.{headOf}
-use Rattle.heads.specs.Calls.{headChecks}
+use Rattle.head_reading.specs.Calls.{headChecks}
 use Rattle.files.specs.Files.{fileNumbers, fileBytes, numbersOf, fileOf}
 
 -- "its arrays in stored order": each array is the next 2N numbers

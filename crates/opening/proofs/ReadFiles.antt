@@ -19,7 +19,7 @@ use Rattle.parameters.proofs.AcceptedParameters.{accepted-parameters}
 use Rattle.heads.specs.Kinds.{arraysOf}
 use Rattle.heads.specs.Heads.{headOf}
 use Rattle.files.specs.Files.{fileNumbers, fileBytes, numbersOf}
-use Rattle.heads.specs.Calls.{headChecks, readingHead}
+use Rattle.head_reading.specs.Calls.{headChecks, readingHead}
 use Rattle.files.specs.Calls.{setChecks, contentChecks, readingChecks, reading}
 use Rattle.files.proofs.Passed.{contents-passed}
 use Rattle.opening.specs.Program.{fileChecks}
