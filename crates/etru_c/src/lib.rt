@@ -7,7 +7,8 @@ ghost use Rattle.refusals.specs.Outcomes.{number, Gives};
 ghost use Rattle.eisenstein.specs.Values.{value};
 ghost use Rattle.eisenstein.specs.Calls.{reduceQ, reduce2, answered};
 ghost use Rattle.parameters.specs.Sets.{set, parameters, made};
-ghost use Rattle.packing.specs.Calls.{packing, unpacking};
+ghost use Rattle.message_packing.specs.Calls.{packing};
+ghost use Rattle.message_unpacking.specs.Calls.{unpacking};
 ghost use Rattle.products.specs.Products.{convolving};
 ghost use Rattle.etru.specs.Calls.{keyCheck, sealing, opening};
 ghost use Rattle.head_reading.specs.Calls.{readingHead};
@@ -139,7 +140,7 @@ pub extern "C" fn etru_open(
 pub extern "C" fn etru_pack(n: u32, message: &[u8], m: &mut [i32]) -> u32
     ensures { λ r. ⌜ Gives (packing n (now (message .entry)) (length (now (m .entry)))) r (now (m .entry)) (now (m .exit)) ⌝ }
 {
-    packing::pack(n, message, m).number()
+    message_packing::pack(n, message, m).number()
 }
 
 // The message that a polynomial stands for, to message.
@@ -147,7 +148,7 @@ pub extern "C" fn etru_pack(n: u32, message: &[u8], m: &mut [i32]) -> u32
 pub extern "C" fn etru_unpack(n: u32, m: &[i32], message: &mut [u8]) -> u32
     ensures { λ r. ⌜ Gives (unpacking n (now (m .entry)) (length (now (message .entry)))) r (now (message .entry)) (now (message .exit)) ⌝ }
 {
-    packing::unpack(n, m, message).number()
+    message_unpacking::unpack(n, m, message).number()
 }
 
 // Hands parameters on to the outputs, or a refusal's number alone.
