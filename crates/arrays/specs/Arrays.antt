@@ -1,41 +1,15 @@
--- Arrays of a parameter set (document 01, 'Where each number is checked'): their length, their sets, and the size of their numbers.
+-- Arrays (document 01, 'Where each number is checked'): their length, and the size of their numbers.
 use mathlib.Core.Bool.{Bool, not, _&&_}
-use mathlib.Core.List.{List, [], _∷_, _++_}
+use mathlib.Core.List.{List}
 use Prim.Native.Nat.{ℕ, _*_, _≤_}
 use lib.Dec.{eqb, leb, ltb}
 use lib.IntN.{ℤ, pos, natAbs}
 use lib.ListN.{length, getD}
-use Rattle.refusals.specs.Outcomes.{Check, Outcome, outcome, _if_}
-use Rattle.parameters.specs.Sets.{ParameterSet, parameterChecks}
-use Rattle.polynomials.specs.Polynomials.{coefficient, all, zerosAndUnits, unitsOnly, unitsOfSumZero, reducedQ, reduced2}
-use Rattle.arrays.specs.declared.ArraySet.{ArraySet}
-use Rattle.arrays.specs.declared.ArraySet.the-variants.{F, G, Phi, ReducedModulo2, ReducedModuloQ}
+use Rattle.polynomials.specs.Polynomials.{coefficient, all, zerosAndUnits}
 
 -- an array, or an output's room, of 2N numbers
 abbrev pub full : ℕ → ℕ → Bool
 full N n = eqb n (2 * N)
-
--- "Arrays", refusals 8 to 12: whether an array is in a set, and the refusal if it is not.
-abbrev pub inSet : ParameterSet → ArraySet → List ℤ → Bool
-inSet p F x = unitsOnly (p .N) (p .t) (coefficient x)
-inSet p G x = unitsOfSumZero (p .N) (p .s) (coefficient x)
-inSet p Phi x = unitsOfSumZero (p .N) (p .s) (coefficient x)
-inSet p ReducedModulo2 x = reduced2 (p .N) (coefficient x)
-inSet p ReducedModuloQ x = reducedQ (p .N) (p .q) (coefficient x)
-
-abbrev pub notInSet : ArraySet → ℕ
-notInSet F = 8
-notInSet G = 9
-notInSet Phi = 10
-notInSet ReducedModulo2 = 11
-notInSet ReducedModuloQ = 12
-
--- One array on its own: parameters, 7, then the refusal of its set.
-unfoldable pub arrayChecks : ParameterSet → ArraySet → List ℤ → List Check
-arrayChecks p a x = 7 if not (full (p .N) (length x)) ∷ notInSet a if not (inSet p a x) ∷ []
-
-unfoldable pub arrayCheck : ParameterSet → ArraySet → List ℤ → Outcome (Unit {0})
-arrayCheck p a x = outcome (parameterChecks p ++ arrayChecks p a x) tt
 
 -- Numbers at most b in size. The fact, and the test of it.
 abbrev pub AllWithin : ℕ → List ℤ → Type 0

@@ -7,10 +7,11 @@ ghost use Rattle.refusals.specs.Outcomes.{number, Gives};
 ghost use Rattle.eisenstein.specs.Values.{value};
 ghost use Rattle.eisenstein.specs.Calls.{reduceQ, reduce2, answered};
 ghost use Rattle.parameters.specs.Sets.{set, parameters, made};
-ghost use Rattle.packing.specs.Calls.{packing, unpacking};
+ghost use Rattle.message_packing.specs.Calls.{packing};
+ghost use Rattle.message_unpacking.specs.Calls.{unpacking};
 ghost use Rattle.products.specs.Products.{convolving};
 ghost use Rattle.etru.specs.Calls.{keyCheck, sealing, opening};
-ghost use Rattle.heads.specs.Calls.{readingHead};
+ghost use Rattle.head_reading.specs.Calls.{readingHead};
 ghost use Rattle.files.specs.Calls.{reading, writing};
 ghost use Rattle.opening.specs.Program.{lineWriting, lineLength};
 use eisenstein::Reduced;
@@ -139,7 +140,7 @@ pub extern "C" fn etru_open(
 pub extern "C" fn etru_pack(n: u32, message: &[u8], m: &mut [i32]) -> u32
     ensures { λ r. ⌜ Gives (packing n (now (message .entry)) (length (now (m .entry)))) r (now (m .entry)) (now (m .exit)) ⌝ }
 {
-    packing::pack(n, message, m).number()
+    message_packing::pack(n, message, m).number()
 }
 
 // The message that a polynomial stands for, to message.
@@ -147,7 +148,7 @@ pub extern "C" fn etru_pack(n: u32, message: &[u8], m: &mut [i32]) -> u32
 pub extern "C" fn etru_unpack(n: u32, m: &[i32], message: &mut [u8]) -> u32
     ensures { λ r. ⌜ Gives (unpacking n (now (m .entry)) (length (now (message .entry)))) r (now (message .entry)) (now (message .exit)) ⌝ }
 {
-    packing::unpack(n, m, message).number()
+    message_unpacking::unpack(n, m, message).number()
 }
 
 // Hands parameters on to the outputs, or a refusal's number alone.
@@ -196,7 +197,7 @@ pub extern "C" fn etru_read_head(
         (set (now (n .entry)) (now (c .entry)) (now (d .entry)) (now (s .entry)) (now (t .entry)))
         (set (now (n .exit)) (now (c .exit)) (now (d .exit)) (now (s .exit)) (now (t .exit))) ⌝ }
 {
-    give_parameters(heads::read_head(kind, file), n, c, d, s, t)
+    give_parameters(head_reading::read_head(kind, file), n, c, d, s, t)
 }
 
 // The arrays of a file of the wanted kind, one after another in stored order, to numbers.

@@ -14,9 +14,10 @@ use Rattle.parameters.specs.Sets.{ParameterSet}
 use Rattle.polynomials.specs.Polynomials.{coefficient}
 use Rattle.polynomials.proofs.Members.{sum-zero-units}
 use Rattle.packing.specs.Promises.{Bytes}
-use Rattle.arrays.specs.Arrays.{Small, inSet, notInSet}
-use Rattle.arrays.specs.declared.ArraySet.{ArraySet}
-use Rattle.arrays.specs.declared.ArraySet.the-variants.{F, G, Phi, ReducedModulo2, ReducedModuloQ}
+use Rattle.arrays.specs.Arrays.{Small}
+use Rattle.array_sets.specs.Sets.{inSet, notInSet}
+use Rattle.array_sets.specs.declared.ArraySet.{ArraySet}
+use Rattle.array_sets.specs.declared.ArraySet.the-variants.{F, G, Phi, ReducedModulo2, ReducedModuloQ}
 use Rattle.parameters.proofs.AcceptedParameters.{Accepted, modulus-nonzero}
 use Rattle.arrays.proofs.Sizes.{units-small, reduced2-small, reducedQ-small}
 use Rattle.heads.specs.Heads.{bytes16, number16, bits16, signed16}

@@ -18,13 +18,14 @@ use Rattle.packing.specs.Promises.{Bytes}
 use Rattle.heads.specs.Kinds.{knownKind}
 use Rattle.heads.specs.Heads.{headLength, bytes16, number16, bits16, signed16, unsignedAt, signedAt, headOf, headBytes}
 use Rattle.files.specs.Files.{numbersOf, bytesOf, fileOf}
-use Rattle.heads.specs.Calls.{marked, versionOne, headChecks, readingHead}
+use Rattle.head_reading.specs.Calls.{marked, versionOne, headChecks, readingHead}
 use Rattle.files.specs.Calls.{readingChecks, reading, givenChecks, writingChecks, writing}
 use Rattle.files.specs.Promises.{Reading-undoes-writing, Writing-undoes-reading, Written-bytes}
 use Rattle.heads.proofs.ArraysOfKinds.{kind-small}
 use Rattle.heads.proofs.Numbers.{Fits16, signed-bits, bits-signed, bits-lt, number-bytes, bytes-number, number-lt}
 use Rattle.files.proofs.Lists.{Fitting, fitting-small, bytes-length, numbers-length, numbers-of-bytes, bytes-of-numbers}
-use Rattle.heads.proofs.HeadChecks.{Head, head-passed, PartsFit, parts-fit}
+use Rattle.heads.proofs.PartsFit.{PartsFit, parts-fit}
+use Rattle.head_reading.proofs.HeadChecks.{Head, head-passed}
 use Rattle.files.proofs.Passed.{contents-passed, contents-small, file-bytes}
 
 -- ---- a file that is written

@@ -10,9 +10,9 @@ use lib.Seq.{drop-cons, drop-drop, drop-length}
 use Rattle.refusals.specs.Outcomes.{Check, refused, outcome, Passes}
 use Rattle.refusals.proofs.Checks.{passed-all, refused-first, none-left}
 use Rattle.parameters.specs.Sets.{ParameterSet}
-use Rattle.arrays.specs.declared.ArraySet.{ArraySet}
-use Rattle.arrays.specs.declared.ArraySet.the-variants.{ReducedModuloQ}
-use Rattle.arrays.proofs.ArrayChecks.{own}
+use Rattle.array_sets.specs.declared.ArraySet.{ArraySet}
+use Rattle.array_sets.specs.declared.ArraySet.the-variants.{ReducedModuloQ}
+use Rattle.array_sets.proofs.ArrayChecks.{own}
 use Rattle.files.specs.Files.{arrayAt}
 use Rattle.files.specs.Calls.{setChecks}
 

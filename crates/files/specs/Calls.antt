@@ -7,11 +7,11 @@ use lib.IntN.{ℤ}
 use lib.ListN.{length, take, drop}
 use Rattle.refusals.specs.Outcomes.{Check, Outcome, outcome, _if_}
 use Rattle.parameters.specs.Sets.{ParameterSet, parameterChecks}
-use Rattle.arrays.specs.declared.ArraySet.{ArraySet}
-use Rattle.arrays.specs.Arrays.{inSet, notInSet}
+use Rattle.array_sets.specs.declared.ArraySet.{ArraySet}
+use Rattle.array_sets.specs.Sets.{inSet, notInSet}
 use Rattle.heads.specs.Kinds.{arraysOf, knownKind}
 use Rattle.heads.specs.Heads.{headOf}
-use Rattle.heads.specs.Calls.{headChecks}
+use Rattle.head_reading.specs.Calls.{headChecks}
 use Rattle.files.specs.Files.{fileNumbers, fileBytes, numbersOf, fileOf}
 
 -- "its arrays in stored order": each array is the next 2N numbers

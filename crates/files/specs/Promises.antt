@@ -8,7 +8,7 @@ use Rattle.refusals.specs.Outcomes.{done}
 use Rattle.parameters.specs.Sets.{ParameterSet}
 use Rattle.packing.specs.Promises.{Bytes}
 use Rattle.heads.specs.Heads.{headOf}
-use Rattle.heads.specs.Calls.{readingHead}
+use Rattle.head_reading.specs.Calls.{readingHead}
 use Rattle.files.specs.Calls.{reading, writing}
 
 -- What is written reads back to the same parameters and the same numbers.

@@ -5,15 +5,15 @@ ghost use lib.ListN.{length, getD};
 ghost use Rattle.refusals.specs.Outcomes.{outcome, Passes};
 ghost use Rattle.refusals.specs.Numbers.{answered};
 ghost use Rattle.parameters.specs.Sets.{setOf, parameterChecks};
-ghost use Rattle.arrays.specs.Arrays.{arrayCheck};
-ghost use Rattle.arrays.specs.declared.ArraySet.the-variants.{ReducedModuloQ};
+ghost use Rattle.array_sets.specs.Sets.{arrayCheck};
+ghost use Rattle.array_sets.specs.declared.ArraySet.the-variants.{ReducedModuloQ};
 ghost use Rattle.heads.specs.Kinds.{arraysOf};
 ghost use Rattle.files.specs.Files.{fileNumbers, numbersFrom, arrayAt};
 ghost use Rattle.files.specs.Calls.{setChecks, rightLengths};
 use crate::file_bytes;
 use crate::file_numbers;
 use crate::stored::read_numbers;
-use arrays::ArraySet;
+use array_sets::ArraySet;
 use heads::kinds::array_count;
 use heads::kinds::array_set;
 use parameters::Parameters;
@@ -38,7 +38,7 @@ fn stored_array_refusal(kind: u32, p: Parameters, k: usize, bytes: &[u8], x: &mu
     let from = width * k;
     let to = from + width;
     read_numbers(&bytes[from..to], x);
-    arrays::check_array(p, array_set(kind, k), x)
+    array_sets::check_array(p, array_set(kind, k), x)
 }
 
 // Judges the arrays in the bytes after a head, each in the same lent array.
@@ -69,7 +69,7 @@ fn array_refusal(kind: u32, p: Parameters, k: usize, numbers: &[i32]) -> Answer
     let width = 2 * (n as usize);
     let from = width * k;
     let to = from + width;
-    arrays::check_array(p, array_set(kind, k), &numbers[from..to])
+    array_sets::check_array(p, array_set(kind, k), &numbers[from..to])
 }
 
 pub(crate) fn sets_refusal(kind: u32, p: Parameters, numbers: &[i32]) -> Answer

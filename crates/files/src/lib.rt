@@ -49,7 +49,7 @@ pub fn four_arrays() -> [i32; 8192]
 pub fn read(kind: u32, file: &[u8], numbers: &mut [i32]) -> Answer
     ensures { λ r. ⌜ Gives (reading kind (now (file .entry)) (length (now (numbers .entry)))) (number (answered r)) (now (numbers .entry)) (now (numbers .exit)) ⌝ }
 {
-    match heads::read_head(kind, file) {
+    match head_reading::read_head(kind, file) {
         Made::Accepted(p) => reading::read_content(kind, p, file, numbers),
         Made::Refused(refusal) => Answer::Refused(refusal),
     }

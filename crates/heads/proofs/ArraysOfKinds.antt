@@ -8,8 +8,8 @@ use native.Mathlib.Decide.{ℕ-discrete}
 use borrow.Author.Tests.{ne-eqb}
 use lib.Dec.{T, lit≤, lit<, ltb, eqb}
 use lib.ListN.{length, getD}
-use Rattle.arrays.specs.declared.ArraySet.{ArraySet}
-use Rattle.arrays.specs.declared.ArraySet.the-variants.{F, G, ReducedModulo2, ReducedModuloQ}
+use Rattle.array_sets.specs.declared.ArraySet.{ArraySet}
+use Rattle.array_sets.specs.declared.ArraySet.the-variants.{F, G, ReducedModulo2, ReducedModuloQ}
 use Rattle.heads.specs.Kinds.{arraysOf, knownKind}
 
 pub public-arrays : (kind : ℕ) → kind ≡ 1 → arraysOf kind ≡ ReducedModuloQ ∷ []

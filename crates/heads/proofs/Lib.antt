@@ -1,4 +1,4 @@
 pub mod ArraysOfKinds
 pub mod Handed
-pub mod HeadChecks
 pub mod Numbers
+pub mod PartsFit

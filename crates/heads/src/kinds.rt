@@ -1,9 +1,9 @@
 // The kinds of file, and what each holds: a new kind is added here, and to `arraysOf` of the definitions.
 ghost use mathlib.Core.Path.{_≡_};
 ghost use lib.ListN.{length, getD};
-ghost use Rattle.arrays.specs.declared.ArraySet.the-variants.{ReducedModuloQ};
+ghost use Rattle.array_sets.specs.declared.ArraySet.the-variants.{ReducedModuloQ};
 ghost use Rattle.heads.specs.Kinds.{arraysOf, knownKind};
-use arrays::ArraySet;
+use array_sets::ArraySet;
 
 // "Kind 1, public: h. Kind 2, private: f, F2, Fq, g. Kind 3, sealed: e."
 pub const PUBLIC: u32 = 1;

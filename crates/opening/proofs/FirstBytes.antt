@@ -11,7 +11,7 @@ use lib.Seq.{take-all, take-take, getD-take}
 use Rattle.refusals.specs.Outcomes.{outcome}
 use Rattle.parameters.specs.Sets.{parameterChecks}
 use Rattle.heads.specs.Heads.{headLength, headOf, unsignedAt, signedAt}
-use Rattle.heads.specs.Calls.{marked, versionOne, headChecks, readingHead}
+use Rattle.head_reading.specs.Calls.{marked, versionOne, headChecks, readingHead}
 
 module _ (file : List ℕ) where
   byte-of-start : (k : ℕ) → T (ltb k headLength) → getD (take headLength file) k 0 ≡ getD file k 0

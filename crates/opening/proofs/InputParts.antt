@@ -12,7 +12,7 @@ use Rattle.refusals.proofs.Checks.{refused-first}
 use Rattle.parameters.specs.Sets.{ParameterSet}
 use Rattle.heads.specs.Heads.{headLength, headOf}
 use Rattle.files.specs.Files.{fileBytes}
-use Rattle.heads.specs.Calls.{readingHead}
+use Rattle.head_reading.specs.Calls.{readingHead}
 use Rattle.files.proofs.Lists.{rest-taken}
 use Rattle.files.proofs.Passed.{file-bytes}
 use Rattle.opening.specs.Program.{firstLength, fileChecks, openingPair, openingFiles}

@@ -8,10 +8,10 @@ use lib.IntN.{ℤ}
 use lib.ListN.{length}
 use lib.Seq.{take-at, drop-at, take-all, drop-append-add}
 use Rattle.parameters.specs.Sets.{ParameterSet}
-use Rattle.arrays.specs.declared.ArraySet.{ArraySet}
+use Rattle.array_sets.specs.declared.ArraySet.{ArraySet}
 use Rattle.files.specs.Files.{arrayAt}
 use Rattle.files.specs.Calls.{setChecks}
-use Rattle.arrays.proofs.ArrayChecks.{own}
+use Rattle.array_sets.proofs.ArrayChecks.{own}
 
 module _ (p : ParameterSet) (x : List ℤ) (long : length x ≡ 2 * p .N) where
   pub first-array : (l : List ℤ) → arrayAt p 0 (x ++ l) ≡ x

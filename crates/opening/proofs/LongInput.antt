@@ -15,7 +15,7 @@ use Rattle.parameters.proofs.AcceptedParameters.{accepted-parameters}
 use Rattle.heads.specs.Kinds.{arraysOf}
 use Rattle.heads.specs.Heads.{headLength, headOf}
 use Rattle.files.specs.Files.{fileNumbers, fileBytes, numbersOf}
-use Rattle.heads.specs.Calls.{headChecks}
+use Rattle.head_reading.specs.Calls.{headChecks}
 use Rattle.files.specs.Calls.{contentChecks, readingChecks}
 use Rattle.files.proofs.Passed.{file-bytes}
 use Rattle.files.proofs.Bounds.{numbers-few}

@@ -13,13 +13,13 @@ use Rattle.refusals.specs.declared.Refusal.{Refusal}
 use Rattle.refusals.proofs.Checks.{positive, done-as-written, refused-by-number, refused-plain, refused-first, done-all, done-parts}
 use Rattle.refusals.proofs.Numbers.{number-positive}
 use Rattle.parameters.specs.Sets.{ParameterSet, parameterChecks}
-use Rattle.arrays.specs.declared.ArraySet.{ArraySet}
-use Rattle.arrays.specs.declared.ArraySet.the-variants.{F, G, Phi, ReducedModulo2, ReducedModuloQ}
+use Rattle.array_sets.specs.declared.ArraySet.{ArraySet}
+use Rattle.array_sets.specs.declared.ArraySet.the-variants.{F, G, Phi, ReducedModulo2, ReducedModuloQ}
 use Rattle.parameters.proofs.AcceptedParameters.{accepted-parameters}
 use Rattle.heads.specs.Kinds.{arraysOf}
 use Rattle.heads.specs.Heads.{headOf}
 use Rattle.files.specs.Files.{fileNumbers, fileBytes, numbersOf}
-use Rattle.heads.specs.Calls.{headChecks, readingHead}
+use Rattle.head_reading.specs.Calls.{headChecks, readingHead}
 use Rattle.files.specs.Calls.{setChecks, contentChecks, readingChecks, reading}
 use Rattle.files.proofs.Passed.{contents-passed}
 use Rattle.opening.specs.Program.{fileChecks}

@@ -18,13 +18,13 @@ use Rattle.parameters.specs.Sets.{ParameterSet, parameterChecks}
 use Rattle.polynomials.specs.Polynomials.{coefficient, array, unitsOnly, reduced2, reducedQ}
 use Rattle.packing.specs.Messages.{messageBytes}
 use Rattle.arrays.specs.Arrays.{full}
-use Rattle.arrays.specs.declared.ArraySet.the-variants.{F, G, ReducedModulo2, ReducedModuloQ}
+use Rattle.array_sets.specs.declared.ArraySet.the-variants.{F, G, ReducedModulo2, ReducedModuloQ}
 use Rattle.etru.specs.Scheme.{publicKey}
 use Rattle.etru.specs.Calls.{keyChecks, keyCheck, openingChecks, opening}
 use Rattle.heads.specs.Kinds.{arraysOf}
 use Rattle.files.specs.Files.{fileNumbers, arrayAt}
 use Rattle.files.specs.Calls.{setChecks}
-use Rattle.arrays.proofs.ArrayChecks.{own}
+use Rattle.array_sets.proofs.ArrayChecks.{own}
 use Rattle.files.proofs.SetChecks.{first-array, next-array}
 use Rattle.opening.specs.Program.{sameSet, inverseChecks, pairChecks, messageOf}
 use Rattle.opening.specs.Steps.{KeyRead, after, openingArrays, openingWith}

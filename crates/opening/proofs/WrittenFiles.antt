@@ -17,7 +17,7 @@ use Rattle.eisenstein.proofs.Equality.{same-true}
 use Rattle.parameters.specs.Sets.{ParameterSet, parameterChecks}
 use Rattle.polynomials.specs.Polynomials.{coefficient, convolution, one, congruentQ, congruent2}
 use Rattle.packing.specs.Messages.{messageBytes}
-use Rattle.arrays.specs.declared.ArraySet.the-variants.{F, G, ReducedModulo2, ReducedModuloQ}
+use Rattle.array_sets.specs.declared.ArraySet.the-variants.{F, G, ReducedModulo2, ReducedModuloQ}
 use Rattle.etru.specs.Calls.{keyChecks, keyCheck, openingChecks, opening}
 use Rattle.etru.specs.Demand3.{AcceptedKey, Opens}
 use Rattle.etru.proofs.Passed.{Checking, key-passed, opening-passed}
@@ -26,7 +26,7 @@ use Rattle.heads.specs.Kinds.{arraysOf, knownKind}
 use Rattle.heads.specs.Heads.{headLength, number16, unsignedAt, headOf}
 use Rattle.files.specs.Files.{fileNumbers, fileBytes, arrayAt, fileOf}
 use Rattle.files.specs.Calls.{setChecks, contentChecks, writingChecks, writing}
-use Rattle.arrays.proofs.ArrayChecks.{own}
+use Rattle.array_sets.proofs.ArrayChecks.{own}
 use Rattle.heads.proofs.ArraysOfKinds.{private-arrays, sealed-arrays}
 use Rattle.files.proofs.Passed.{file-bytes}
 use Rattle.files.proofs.RoundTrips.{reading-undoes-writing}

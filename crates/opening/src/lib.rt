@@ -39,7 +39,7 @@ fn open_input(input: &[u8], message: &mut [u8]) -> Opened
     requires { ⌜ length (now message) ≡ 256 ⌝ }
     ensures { λ r. ⌜ openedIs r (now (message .exit)) ≡ openingFiles (now (input .entry)) ⌝ }
 {
-    match heads::read_head(heads::kinds::PRIVATE, input) {
+    match head_reading::read_head(heads::kinds::PRIVATE, input) {
         Made::Accepted(p) => private_files::open_private(p, input, message),
         Made::Refused(refusal) => Opened::Refused(refusal),
     }

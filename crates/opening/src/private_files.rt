@@ -5,7 +5,7 @@ ghost use lib.ListN.{length};
 ghost use Rattle.refusals.specs.Outcomes.{done};
 ghost use Rattle.parameters.specs.Sets.{setOf};
 ghost use Rattle.files.specs.Files.{fileBytes};
-ghost use Rattle.heads.specs.Calls.{readingHead};
+ghost use Rattle.head_reading.specs.Calls.{readingHead};
 ghost use Rattle.opening.specs.Program.{openingPair, openingFiles};
 ghost use Rattle.opening.specs.Steps.{Room, openedIs};
 use crate::Opened;

@@ -5,7 +5,7 @@ ghost use lib.ListN.{length};
 ghost use Rattle.refusals.specs.Outcomes.{done, outcome, number};
 ghost use Rattle.refusals.specs.Numbers.{answered};
 ghost use Rattle.parameters.specs.Sets.{setOf};
-ghost use Rattle.heads.specs.Calls.{readingHead};
+ghost use Rattle.head_reading.specs.Calls.{readingHead};
 ghost use Rattle.opening.specs.Program.{inverseChecks};
 ghost use Rattle.opening.specs.Steps.{KeyRead, keyIn, Room, SealedRead, openingSealed, openedIs};
 use crate::Opened;
@@ -59,7 +59,7 @@ pub(crate) fn open_sealed(
     let n = p.n;
     let k = files::file_numbers(heads::kinds::PRIVATE, n);
     let key = key_refusal(p, &numbers[..k]);
-    match heads::read_head(heads::kinds::SEALED, file) {
+    match head_reading::read_head(heads::kinds::SEALED, file) {
         Made::Accepted(sealed) => open_sealed_in(p, key, sealed, file, numbers, message),
         Made::Refused(refusal) => Opened::Refused(refusal),
     }

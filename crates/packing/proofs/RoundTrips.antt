@@ -1,4 +1,4 @@
--- Packing and unpacking undo each other.
+-- What is packed and what is unpacked undo each other.
 use mathlib.Core.Path.{_≡_, refl, sym, _∙_, ap, ap₂, subst}
 use mathlib.Core.Bool.{Bool, true, false, not, cond, _&&_, _||_}
 use mathlib.Core.List.{List}
@@ -11,19 +11,14 @@ use lib.Dec.{T, eqb, ltb, eqb→eq}
 use lib.IntN.{ℤ, pos, negsuc}
 use lib.ListN.{length, getD}
 use lib.Seq.{ext-getD}
-use mir.Facts.{T-not-not, and-yes, or-yes, ltb-yes}
-use Rattle.refusals.specs.Outcomes.{done}
-use Rattle.refusals.proofs.Checks.{passed, holds-passed, none-left, done-passed, done-holds, done-value}
-use Rattle.parameters.specs.Sets.{outside}
-use Rattle.integers.proofs.Tests.{every-at, equal-2}
+use mir.Facts.{T-not-not, or-yes, ltb-yes}
+use Rattle.integers.proofs.Tests.{every-at}
 use Rattle.eisenstein.specs.Values.{ℤ[ω], value}
 use Rattle.eisenstein.specs.Reduction.{bit, mod2}
-use Rattle.polynomials.specs.Polynomials.{Polynomial, coefficient, array, all, reduced2}
-use Rattle.polynomials.proofs.Arrays.{coefficient-array, array-length, array-same, array-coefficients}
+use Rattle.polynomials.specs.Polynomials.{Polynomial, all}
 use Rattle.polynomials.proofs.Members.{all-at, at-all, reduced2-at, at-reduced2}
 use Rattle.packing.specs.Messages.{messageBytes, bitOf, pair, packed, spareBitSet, messageBit, byte, listed, unpacked}
-use Rattle.packing.specs.Promises.{Packed-unpacks, Packed-reduced, Unpacked-packs, Unpacked-bytes, Unpacked-spare, Unpacking-undoes-packing, Packing-undoes-unpacking}
-use Rattle.packing.specs.Calls.{packingChecks, packing, unpackingChecks, unpacking}
+use Rattle.packing.specs.Promises.{Packed-unpacks, Packed-reduced, Unpacked-packs, Unpacked-bytes, Unpacked-spare}
 
 -- ---- lists: their length, and what stands at each place
 
@@ -291,70 +286,8 @@ unpacked-same N {m} {m′} h =
         ∙ byte-same (messageBit N m) (messageBit N m′) i (messageBytes N) p (λ k q. messageBit-same N h k)
         ∙ sym (listed-at (messageBytes N) (byte (messageBit N m′)) i p)
 
--- ---- the calls
+-- ---- for the code: a pair that is not 11, and 11
 
-reduced2-same : (N : ℕ) {m m′ : Polynomial} → ((i : ℕ) → i < N → m i ≡ m′ i) → T (reduced2 N m) → T (reduced2 N m′)
-reduced2-same N {m} {m′} h t =
-    at-reduced2 N m′ (λ i l. subst (λ (x : ℤ[ω]). mod2 x ≡ x) (h i l) (reduced2-at N m t i l))
-
-not-set : (t : Bool) → t ≡ false → T (not t)
-not-set t e = subst (λ (u : Bool). T (not u)) (sym e) tt
-
-pub is-unset : (t : Bool) → T (not t) → t ≡ false
-is-unset true h = absurd h
-is-unset false h = refl
-
-pub unpacking-undoes-packing : Unpacking-undoes-packing
-unfolding packing packingChecks unpacking unpackingChecks
-unpacking-undoes-packing N message m bytes e =
-    let p = done-passed 1 (outside 3 1024 N) _ _ _ e in
-    let q = done-holds 7 (eqb (length message) (messageBytes N) && eqb (2 * N) (2 * N)) _ _ _ (p .1) in
-    let r = done-passed 15 (spareBitSet N message) _ _ _ (q .1) in
-    let v : array N (packed message) ≡ m = done-value _ _ (r .1) in
-    let n : length message ≡ messageBytes N = eqb→eq _ _ (and-yes (eqb (length message) (messageBytes N)) (eqb (2 * N) (2 * N)) (q .0) .0) in
-    let same : (i : ℕ) → i < N → packed message i ≡ coefficient m i = λ i l. sym (coefficient-array N (packed message) i l) ∙ ap (λ (x : List ℤ). coefficient x i) v in
-    passed 1 _ _ (p .0)
-    ∙ holds-passed 7 (eqb (messageBytes N) (messageBytes N) && eqb (length m) (2 * N)) _ _ (equal-2 {a = messageBytes N} refl (ap length (sym v) ∙ array-length N (packed message)))
-    ∙ holds-passed 11 (reduced2 N (coefficient m)) _ _ (reduced2-same N same (packed-reduced N message))
-    ∙ none-left _
-    ∙ ap done (unpacked-same N (λ i l. sym (same i l)) ∙ packed-unpacks N message bytes n (not-set (spareBitSet N message) (r .0)))
-
-pub packing-undoes-unpacking : Packing-undoes-unpacking
-unfolding packing packingChecks unpacking unpackingChecks
-packing-undoes-unpacking N m message e =
-    let p = done-passed 1 (outside 3 1024 N) _ _ _ e in
-    let q = done-holds 7 (eqb (messageBytes N) (messageBytes N) && eqb (length m) (2 * N)) _ _ _ (p .1) in
-    let r = done-holds 11 (reduced2 N (coefficient m)) _ _ _ (q .1) in
-    let v : unpacked N (coefficient m) ≡ message = done-value _ _ (r .1) in
-    let n : length m ≡ 2 * N = eqb→eq _ _ (and-yes (eqb (messageBytes N) (messageBytes N)) (eqb (length m) (2 * N)) (q .0) .1) in
-    passed 1 _ _ (p .0)
-    ∙ holds-passed 7 (eqb (length message) (messageBytes N) && eqb (2 * N) (2 * N)) _ _ (equal-2 {b = 2 * N} (ap length (sym v) ∙ unpacked-length N (coefficient m)) refl)
-    ∙ passed 15 _ _ (is-unset (spareBitSet N message) (subst (λ (l : List ℕ). T (not (spareBitSet N l))) v (unpacked-spare N (coefficient m))))
-    ∙ none-left _
-    ∙ ap done (array-same N (λ i l. ap (λ (x : List ℕ). packed x i) (sym v) ∙ unpacked-packs N (coefficient m) (r .0) i l) ∙ array-coefficients N m n)
-
--- ---- for the code: bits of an array, and bytes known one by one
-
-pub bit-of-array : (N : ℕ) (m : List ℤ) (k : ℕ) → k < 2 * N → messageBit N (coefficient m) k ≡ bit (getD m k (pos 0))
-unfolding messageBit coefficient
-bit-of-array N m k l =
-    ap (λ (c : Bool). cond c (bit (cond (eqb (k % 2) 0) (coefficient m (k / 2) .a) (coefficient m (k / 2) .b))) 0) (lt-ltb k (2 * N) l)
-    ∙ by-place (ℕ-discrete (k % 2) 0)
-  where
-    by-place : Dec (k % 2 ≡ 0) → bit (cond (eqb (k % 2) 0) (getD m (2 * (k / 2)) (pos 0)) (getD m (2 * (k / 2) + 1) (pos 0))) ≡ bit (getD m k (pos 0))
-    by-place (yes e) =
-        ap (λ (c : Bool). bit (cond c (getD m (2 * (k / 2)) (pos 0)) (getD m (2 * (k / 2) + 1) (pos 0)))) (eq-eqb (k % 2) 0 e)
-        ∙ ap (λ (i : ℕ). bit (getD m i (pos 0))) {x = 2 * (k / 2)} {y = k} (omega arith)
-    by-place (no e) =
-        ap (λ (c : Bool). bit (cond c (getD m (2 * (k / 2)) (pos 0)) (getD m (2 * (k / 2) + 1) (pos 0)))) (ne-eqb (k % 2) 0 e)
-        ∙ ap (λ (i : ℕ). bit (getD m i (pos 0))) {x = 2 * (k / 2) + 1} {y = k} (omega arith)
-
-pub unpacked-by-bytes : (N : ℕ) (m : Polynomial) (l : List ℕ) → length l ≡ messageBytes N → ((j : ℕ) → j < messageBytes N → getD l j 0 ≡ byte (messageBit N m) j) → l ≡ unpacked N m
-unfolding unpacked
-unpacked-by-bytes N m l e h =
-    ext-getD 0 l (unpacked N m) (e ∙ sym (unpacked-length N m)) (λ j p. let q : j < messageBytes N = omega arith in h j q ∙ sym (listed-at (messageBytes N) (byte (messageBit N m)) j q))
-
--- a pair that is not 11, and 11
 pub pair-11 : (a b : ℕ) → a ≡ 1 → b ≡ 1 → pair a b ≡ value (negsuc 0) (negsuc 0)
 unfolding pair
 pair-11 a b e f = ap₂ (λ (u v : ℕ). cond (eqb u 1 && eqb v 1) (value (negsuc 0) (negsuc 0)) (value (pos u) (pos v))) e f
@@ -368,3 +301,8 @@ pair-other (suc zero) zero p q h = refl
 pair-other (suc zero) (suc zero) p q h = absurd (h refl)
 pair-other (suc zero) (suc (suc b)) p q h = absurd (omega arith)
 pair-other (suc (suc a)) b p q h = absurd (omega arith)
+
+-- a test that does not hold
+pub is-unset : (t : Bool) → T (not t) → t ≡ false
+is-unset true h = absurd h
+is-unset false h = refl

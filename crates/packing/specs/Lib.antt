@@ -1,4 +1,2 @@
 pub mod Messages
-pub mod Calls
 pub mod Promises
-pub mod Steps

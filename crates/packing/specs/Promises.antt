@@ -1,15 +1,12 @@
--- What is promised of packing and unpacking, each proved in proofs/RoundTrips.antt.
+-- What is promised of messages and polynomials, each proved in proofs/RoundTrips.antt.
 use mathlib.Core.Path.{_≡_}
 use mathlib.Core.Bool.{not}
 use mathlib.Core.List.{List}
-use Prim.Native.Nat.{ℕ, _*_, _<_}
+use Prim.Native.Nat.{ℕ, _<_}
 use lib.Dec.{T}
-use lib.IntN.{ℤ}
 use lib.ListN.{length, getD}
-use Rattle.refusals.specs.Outcomes.{done}
 use Rattle.polynomials.specs.Polynomials.{Polynomial, reduced2}
 use Rattle.packing.specs.Messages.{messageBytes, packed, unpacked, spareBitSet}
-use Rattle.packing.specs.Calls.{packing, unpacking}
 
 -- Each number of a list is a byte.
 abbrev pub Bytes : List ℕ → Type 0
@@ -31,10 +28,3 @@ Unpacked-bytes = (N : ℕ) (m : Polynomial) → Bytes (unpacked N m)
 
 abbrev pub Unpacked-spare : Type 0
 Unpacked-spare = (N : ℕ) (m : Polynomial) → T (not (spareBitSet N (unpacked N m)))
-
--- The same of the calls, on accepted input.
-abbrev pub Unpacking-undoes-packing : Type 0
-Unpacking-undoes-packing = (N : ℕ) (message : List ℕ) (m : List ℤ) → Bytes message → packing N message (2 * N) ≡ done m → unpacking N m (messageBytes N) ≡ done message
-
-abbrev pub Packing-undoes-unpacking : Type 0
-Packing-undoes-unpacking = (N : ℕ) (m : List ℤ) (message : List ℕ) → unpacking N m (messageBytes N) ≡ done message → packing N message (2 * N) ≡ done m

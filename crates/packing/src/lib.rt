@@ -1,22 +1,15 @@
-// Message bytes as polynomials, and back: packing and unpacking, with both round trips.
-// It seals and opens nothing.
-// Each call that answers ends with `Done`, or with document 01's first refusal that applies, and then its output is as it came.
+// Message bytes as polynomials, and back: what packing and unpacking are, the lengths of a message, its spare bits, and one coefficient of it.
+// It answers no call, and seals and opens nothing.
 ghost use mathlib.Core.Path.{_≡_};
 ghost use mathlib.Core.Bool.{_&&_};
 ghost use lib.Dec.{eqb};
-ghost use lib.ListN.{length};
-ghost use Rattle.refusals.specs.Outcomes.{number, Gives};
-ghost use Rattle.refusals.specs.Numbers.{answered};
 ghost use Rattle.eisenstein.specs.Values.{value};
 ghost use Rattle.arrays.specs.Arrays.{full};
 ghost use Rattle.packing.specs.Messages.{messageBytes, bitOf, packed, spareBitSet};
-ghost use Rattle.packing.specs.Calls.{packing, unpacking};
 
-mod checks;
-mod messages;
+pub mod lengths;
 
 use eisenstein::Pair;
-use refusals::Answer;
 
 // The length of a message: "N/4 bytes, rounded up".
 pub fn message_bytes(n: u32) -> usize
@@ -73,31 +66,5 @@ pub fn pair_of(message: &[u8], i: u32) -> Pair
     Pair {
         a: a as i32,
         b: b as i32,
-    }
-}
-
-// The polynomial of N coefficients that a message stands for, to m.
-pub fn pack(n: u32, message: &[u8], m: &mut [i32]) -> Answer
-    ensures { λ r. ⌜ Gives (packing n (now (message .entry)) (length (now (m .entry)))) (number (answered r)) (now (m .entry)) (now (m .exit)) ⌝ }
-{
-    match checks::packing_refusal(n, message, m.len()) {
-        Answer::Done => {
-            messages::pack_into(n as usize, message, m);
-            Answer::Done
-        }
-        Answer::Refused(refusal) => Answer::Refused(refusal),
-    }
-}
-
-// The message that a polynomial of N coefficients stands for, to message.
-pub fn unpack(n: u32, m: &[i32], message: &mut [u8]) -> Answer
-    ensures { λ r. ⌜ Gives (unpacking n (now (m .entry)) (length (now (message .entry)))) (number (answered r)) (now (message .entry)) (now (message .exit)) ⌝ }
-{
-    match checks::unpacking_refusal(n, m, message.len()) {
-        Answer::Done => {
-            messages::unpack_into(n as usize, m, message);
-            Answer::Done
-        }
-        Answer::Refused(refusal) => Answer::Refused(refusal),
     }
 }

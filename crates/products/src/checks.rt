@@ -10,7 +10,7 @@ ghost use Rattle.eisenstein.specs.Values.{value, 𝟘, same};
 ghost use Rattle.parameters.specs.Sets.{setOf, parameterChecks};
 ghost use Rattle.polynomials.specs.Polynomials.{coefficient, reducedQ};
 ghost use Rattle.products.specs.Products.{convolvingChecks, usable};
-use arrays::ArraySet;
+use array_sets::ArraySet;
 use arrays::three_full;
 use parameters::Parameters;
 use refusals::Answer;
@@ -20,7 +20,7 @@ fn is_reduced(p: Parameters, x: &[i32]) -> bool
     requires { ⌜ Passes (parameterChecks (setOf p)) × (length (now x) ≡ 2 * p .n) ⌝ }
     ensures { λ r. ⌜ r ≡ reducedQ (p .n) (value (p .c) (p .d)) (coefficient (now (x .entry))) ⌝ }
 {
-    match arrays::check_array(p, ArraySet::ReducedModuloQ, x) {
+    match array_sets::check_array(p, ArraySet::ReducedModuloQ, x) {
         Answer::Done => true,
         Answer::Refused(_) => false,
     }

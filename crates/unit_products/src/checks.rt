@@ -5,7 +5,7 @@ ghost use Rattle.unit_products.specs.Products.{multipliable};
 pub(crate) fn multipliable(n: u32, x: &[i32], y: &[i32], room: usize) -> bool
     ensures { λ r. ⌜ r ≡ multipliable n (now (x .entry)) (now (y .entry)) room ⌝ }
 {
-    if !arrays::zeros_and_units(x, n) {
+    if !array_limits::zeros_and_units(x, n) {
         return false;
     }
     let long = 2 * (n as usize);
@@ -15,5 +15,5 @@ pub(crate) fn multipliable(n: u32, x: &[i32], y: &[i32], room: usize) -> bool
     if room != long {
         return false;
     }
-    arrays::all_small(y)
+    array_limits::all_small(y)
 }

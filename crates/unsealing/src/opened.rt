@@ -30,7 +30,7 @@ fn open_with(
     let d = p.d;
     products::multiply_units_modulo_q(n, c, d, f, e, product);
     products::multiply_units_modulo_2(n, f2, product, m);
-    packing::unpack(n, m, message);
+    message_unpacking::unpack(n, m, message);
 }
 
 // With room for two products of N up to 128, 2 KiB to clear.

@@ -17,7 +17,7 @@ use Rattle.etru.specs.Calls.{keyChecks, keyCheck, sealingChecks, sealing, openi
 use Rattle.heads.specs.Kinds.{arraysOf}
 use Rattle.heads.specs.Heads.{bytes16, number16, bits16, signed16, unsignedAt, signedAt, headOf, headBytes}
 use Rattle.files.specs.Files.{fileNumbers, fileBytes, numbersFrom, arrayAt, bytesOf, fileOf}
-use Rattle.heads.specs.Calls.{marked, versionOne, headChecks}
+use Rattle.head_reading.specs.Calls.{marked, versionOne, headChecks}
 use Rattle.files.specs.Calls.{setChecks, contentChecks, readingChecks, reading, writingChecks, writing}
 use Rattle.lines.specs.Lines.{decimal, hexDigit, hex}
 use Rattle.opening.specs.Program.{firstLength, fileChecks, sameSet, inverseChecks, pairChecks, messageOf, openingPair, openingFiles, openingLine}

@@ -12,7 +12,7 @@ use Rattle.refusals.proofs.Numbers.{number-positive}
 use Rattle.parameters.specs.Sets.{ParameterSet, setOf, parameterChecks, made}
 use Rattle.heads.specs.Heads.{headOf}
 use Rattle.files.specs.Files.{numbersOf}
-use Rattle.heads.specs.Calls.{headChecks, readingHead}
+use Rattle.head_reading.specs.Calls.{headChecks, readingHead}
 use Rattle.files.specs.Calls.{storedChecks, readingChecks, reading}
 use Rattle.files.proofs.read.Statement.{statement}
 use Rattle.files.proofs.read.Tie as tie

@@ -5,7 +5,7 @@ use native.Mathlib.Omega.{arith}
 use borrow.Author.Needs.{needs}
 use lib.ListN.{length, take, drop}
 use Rattle.parameters.specs.Sets.{setOf}
-use Rattle.arrays.specs.Arrays.{arrayCheck}
+use Rattle.array_sets.specs.Sets.{arrayCheck}
 use Rattle.files.specs.Files.{arrayAt}
 use Rattle.files.proofs.Bounds.{end-of-array}
 use Rattle.files.proofs.contents.array_refusal.Statement.{statement}

@@ -6,7 +6,7 @@ use borrow.Author.Needs.{needs}
 use lib.ListN.{length, take, drop, length-drop}
 use lib.Seq.{length-take-le}
 use Rattle.parameters.specs.Sets.{setOf}
-use Rattle.arrays.specs.Arrays.{arrayCheck}
+use Rattle.array_sets.specs.Sets.{arrayCheck}
 use Rattle.files.proofs.Bounds.{end-of-array}
 use Rattle.files.proofs.Lists.{array-numbers}
 use Rattle.files.proofs.contents.stored_array_refusal.Statement.{statement}

@@ -9,7 +9,7 @@ use lib.Seq.{take-at}
 use Rattle.parameters.specs.Sets.{setOf}
 use Rattle.heads.specs.Heads.{headLength, bytes16, headBytes}
 use Rattle.files.specs.Files.{fileOf}
-use Rattle.heads.proofs.HeadChecks.{head-written}
+use Rattle.head_writing.proofs.WritingChecks.{head-written}
 use Rattle.files.proofs.Lists.{rest-taken}
 use Rattle.files.proofs.writing.write_file.Statement.{statement}
 use Rattle.files.proofs.writing.write_file.Tie as tie

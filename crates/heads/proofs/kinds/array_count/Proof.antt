@@ -3,7 +3,7 @@ use mathlib.Core.Path.{sym, ap}
 use mathlib.Core.List.{List}
 use Prim.Native.Nat.{ℕ}
 use lib.ListN.{length}
-use Rattle.arrays.specs.declared.ArraySet.{ArraySet}
+use Rattle.array_sets.specs.declared.ArraySet.{ArraySet}
 use Rattle.heads.proofs.ArraysOfKinds.{public-arrays, private-arrays, sealed-arrays, no-arrays}
 use Rattle.heads.proofs.kinds.array_count.Statement.{statement}
 use Rattle.heads.proofs.kinds.array_count.Tie as tie

@@ -3,8 +3,8 @@ use mathlib.Core.Path.{_≡_, sym, _∙_, ap}
 use mathlib.Core.List.{List, [], _∷_}
 use Prim.Native.Nat.{ℕ}
 use lib.ListN.{getD}
-use Rattle.arrays.specs.declared.ArraySet.{ArraySet}
-use Rattle.arrays.specs.declared.ArraySet.the-variants.{F, G, ReducedModulo2, ReducedModuloQ}
+use Rattle.array_sets.specs.declared.ArraySet.{ArraySet}
+use Rattle.array_sets.specs.declared.ArraySet.the-variants.{F, G, ReducedModulo2, ReducedModuloQ}
 use Rattle.heads.specs.Kinds.{arraysOf}
 use Rattle.heads.proofs.ArraysOfKinds.{private-arrays, remainders-only, private-remainders}
 use Rattle.heads.proofs.kinds.array_set.Statement.{statement}

@@ -10,9 +10,10 @@ use Rattle.refusals.specs.Outcomes.{Check, _if_, done, outcome, Passes}
 use Rattle.refusals.specs.Numbers.{answered}
 use Rattle.refusals.proofs.Checks.{holds, call-passed, call-refused, passed-all, refused-first}
 use Rattle.parameters.specs.Sets.{ParameterSet, setOf, parameterChecks}
-use Rattle.arrays.specs.Arrays.{full, arrayCheck}
-use Rattle.arrays.specs.declared.ArraySet.the-variants.{F, G, ReducedModulo2, ReducedModuloQ}
-use Rattle.arrays.proofs.ArrayChecks.{own, in-set, own-passed, own-refused}
+use Rattle.arrays.specs.Arrays.{full}
+use Rattle.array_sets.specs.Sets.{arrayCheck}
+use Rattle.array_sets.specs.declared.ArraySet.the-variants.{F, G, ReducedModulo2, ReducedModuloQ}
+use Rattle.array_sets.proofs.ArrayChecks.{own, in-set, own-passed, own-refused}
 use Rattle.etru.specs.Calls.{inverseChecks, keyChecks}
 use Rattle.key_check.proofs.checks.key_refusal.Statement.{statement}
 use Rattle.key_check.proofs.checks.key_refusal.Tie as tie

@@ -12,7 +12,8 @@ use Rattle.eisenstein.specs.Values.{value}
 use Rattle.eisenstein.proofs.Equality.{is-true, is-false}
 use Rattle.parameters.specs.Sets.{setOf, parameterChecks}
 use Rattle.polynomials.specs.Polynomials.{coefficient, reducedQ}
-use Rattle.arrays.specs.Arrays.{full, arrayChecks, arrayCheck}
+use Rattle.arrays.specs.Arrays.{full}
+use Rattle.array_sets.specs.Sets.{arrayChecks, arrayCheck}
 use Rattle.products.proofs.checks.is_reduced.Statement.{statement}
 use Rattle.products.proofs.checks.is_reduced.Tie as tie
 

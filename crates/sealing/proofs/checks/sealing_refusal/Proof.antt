@@ -12,8 +12,8 @@ use Rattle.refusals.specs.Numbers.{answered}
 use Rattle.refusals.proofs.Checks.{refused-by, passed, none-left, holds, call-passed, call-refused, passed-all, refused-first}
 use Rattle.parameters.specs.Sets.{ParameterSet, setOf, parameterChecks}
 use Rattle.arrays.specs.Arrays.{full}
-use Rattle.arrays.specs.declared.ArraySet.the-variants.{Phi, ReducedModuloQ}
-use Rattle.arrays.proofs.ArrayChecks.{own, own-passed, own-refused}
+use Rattle.array_sets.specs.declared.ArraySet.the-variants.{Phi, ReducedModuloQ}
+use Rattle.array_sets.proofs.ArrayChecks.{own, own-passed, own-refused}
 use Rattle.packing.specs.Messages.{messageBytes, spareBitSet}
 use Rattle.etru.specs.Calls.{sealingChecks}
 use Rattle.sealing.proofs.checks.sealing_refusal.Statement.{statement}

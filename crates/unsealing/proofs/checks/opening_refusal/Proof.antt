@@ -12,8 +12,8 @@ use Rattle.refusals.specs.Numbers.{answered}
 use Rattle.refusals.proofs.Checks.{holds, call-passed, call-refused, passed-all, refused-first}
 use Rattle.parameters.specs.Sets.{ParameterSet, setOf, parameterChecks}
 use Rattle.arrays.specs.Arrays.{full}
-use Rattle.arrays.specs.declared.ArraySet.the-variants.{F, ReducedModulo2, ReducedModuloQ}
-use Rattle.arrays.proofs.ArrayChecks.{own, own-check, own-passed, own-refused}
+use Rattle.array_sets.specs.declared.ArraySet.the-variants.{F, ReducedModulo2, ReducedModuloQ}
+use Rattle.array_sets.proofs.ArrayChecks.{own, own-check, own-passed, own-refused}
 use Rattle.packing.specs.Messages.{messageBytes}
 use Rattle.etru.specs.Calls.{openingChecks}
 use Rattle.unsealing.proofs.checks.opening_refusal.Statement.{statement}

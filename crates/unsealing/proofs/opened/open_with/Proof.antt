@@ -18,7 +18,7 @@ use Rattle.polynomials.proofs.Arrays.{coefficient-array, array-length}
 use Rattle.arrays.specs.Arrays.{Small}
 use Rattle.arrays.proofs.Sizes.{remainders-small}
 use Rattle.packing.proofs.RoundTrips.{unpacked-same}
-use Rattle.packing.proofs.Passed.{unpacks}
+use Rattle.message_unpacking.proofs.Passed.{unpacks}
 use Rattle.etru.specs.Scheme.{opened}
 use Rattle.etru.proofs.Passed.{Ready, Opening, opening-passed}
 use Rattle.etru.proofs.Products.{product-formed, formed-modulo-q}
