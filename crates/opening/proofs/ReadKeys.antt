@@ -14,7 +14,7 @@ use Rattle.refusals.specs.Outcomes.{Check, Outcome, done, outcome, _if_}
 use Rattle.refusals.proofs.Checks.{passed-all, holds-passed, fails-refused, none-left, done-holds}
 use Rattle.eisenstein.specs.Values.{ℤ[ω], same}
 use Rattle.eisenstein.proofs.Equality.{same-yes}
-use Rattle.parameters.specs.Sets.{ParameterSet, parameterChecks}
+use Rattle.parameters.specs.Sets.{ParameterSet, parameterChecks, sameSet}
 use Rattle.polynomials.specs.Polynomials.{coefficient, array, unitsOnly, reduced2, reducedQ}
 use Rattle.packing.specs.Messages.{messageBytes}
 use Rattle.arrays.specs.Arrays.{full}
@@ -26,7 +26,7 @@ use Rattle.files.specs.Files.{fileNumbers, arrayAt}
 use Rattle.files.specs.Calls.{setChecks}
 use Rattle.arrays.proofs.ArrayChecks.{own}
 use Rattle.files.proofs.SetChecks.{first-array, next-array}
-use Rattle.opening.specs.Program.{sameSet, inverseChecks, pairChecks, messageOf}
+use Rattle.opening.specs.Program.{inverseChecks, pairChecks, messageOf}
 use Rattle.opening.specs.Steps.{KeyRead, after, openingArrays, openingWith}
 use Rattle.opening.proofs.Answers.{after-checks, after-done}
 

@@ -1,13 +1,12 @@
 -- The opening program (document 01, 'Files' and 'Where each number is checked').
-use mathlib.Core.Bool.{Bool, not, _&&_}
+use mathlib.Core.Bool.{not}
 use mathlib.Core.List.{List, [], _∷_, _++_}
 use Prim.Native.Nat.{ℕ}
 use lib.Dec.{eqb}
 use lib.IntN.{ℤ}
 use lib.ListN.{length, take, drop}
 use Rattle.refusals.specs.Outcomes.{Check, Outcome, outcome, _if_}
-use Rattle.eisenstein.specs.Values.{same}
-use Rattle.parameters.specs.Sets.{ParameterSet}
+use Rattle.parameters.specs.Sets.{ParameterSet, sameSet}
 use Rattle.polynomials.specs.Polynomials.{coefficient}
 use Rattle.packing.specs.Messages.{unpacked}
 use Rattle.etru.specs.Scheme.{opened}
@@ -24,10 +23,6 @@ firstLength input = fileBytes 2 (headOf input .N)
 -- A file, read with room for its numbers.
 unfoldable pub fileChecks : ℕ → List ℕ → List Check
 fileChecks kind file = readingChecks kind file (fileNumbers kind (headOf file .N))
-
--- "the two files' parameters differ"
-unfoldable pub sameSet : ParameterSet → ParameterSet → Bool
-sameSet p p′ = eqb (p .N) (p′ .N) && (same (p .q) (p′ .q) && (eqb (p .s) (p′ .s) && eqb (p .t) (p′ .t)))
 
 -- "then 20, 13, 14": of a private file's parameters and numbers f, F2, Fq, g, and a sealed file's parameters
 unfoldable pub inverseChecks : ParameterSet → List ℤ → List Check

@@ -7,14 +7,14 @@ use lib.IntN.{ℤ}
 use lib.ListN.{length, take, drop}
 use Rattle.refusals.specs.Outcomes.{Outcome, outcome, done, refused, Gives, Passes, _if_}
 use Rattle.refusals.specs.Numbers.{numberOf}
-use Rattle.parameters.specs.Sets.{ParameterSet, parameterChecks}
+use Rattle.parameters.specs.Sets.{ParameterSet, parameterChecks, sameSet}
 use Rattle.packing.specs.Messages.{messageBytes}
 use Rattle.etru.specs.Calls.{keyCheck, opening}
 use Rattle.heads.specs.Kinds.{arraysOf}
 use Rattle.heads.specs.Heads.{headOf}
 use Rattle.files.specs.Files.{fileNumbers, numbersOf, arrayAt}
 use Rattle.files.specs.Calls.{setChecks, reading}
-use Rattle.opening.specs.Program.{fileChecks, sameSet, pairChecks, messageOf}
+use Rattle.opening.specs.Program.{fileChecks, pairChecks, messageOf}
 use Rattle.opening.specs.declared.Opened.{Opened}
 use Rattle.opening.specs.declared.Opened.the-variants.{Message, Refused}
 

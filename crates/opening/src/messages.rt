@@ -6,10 +6,10 @@ ghost use Rattle.refusals.specs.Numbers.{answered};
 ghost use Rattle.parameters.specs.Sets.{setOf, parameterChecks};
 ghost use Rattle.packing.specs.Messages.{messageBytes};
 ghost use Rattle.etru.specs.Calls.{opening};
-ghost use Rattle.opening.specs.Program.{sameSet};
 ghost use Rattle.opening.specs.Steps.{Room, openingArrays, openingWith, openedIs};
 use crate::Opened;
 use parameters::Parameters;
+use parameters::same_parameters;
 use refusals::Answer;
 use refusals::Refusal;
 
@@ -39,34 +39,6 @@ fn open_arrays(p: Parameters, numbers: &[i32], message: &mut [u8]) -> Opened
     let f2 = &numbers[f_end..f2_end];
     let e = &numbers[f2_end..e_end];
     open_message(p, f, f2, e, message)
-}
-
-fn same_parameters(p: Parameters, other: Parameters) -> bool
-    ensures { λ r. ⌜ r ≡ sameSet (setOf p) (setOf other) ⌝ }
-{
-    let n = p.n;
-    let c = p.c;
-    let d = p.d;
-    let s = p.s;
-    let t = p.t;
-    let other_n = other.n;
-    let other_c = other.c;
-    let other_d = other.d;
-    let other_s = other.s;
-    let other_t = other.t;
-    if n != other_n {
-        return false;
-    }
-    if c != other_c {
-        return false;
-    }
-    if d != other_d {
-        return false;
-    }
-    if s != other_s {
-        return false;
-    }
-    t == other_t
 }
 
 // What the key check answered, the parameters of the sealed file, and the arrays f, F2 and e.

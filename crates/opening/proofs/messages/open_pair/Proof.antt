@@ -8,8 +8,7 @@ use Rattle.refusals.specs.Outcomes.{Outcome, done, outcome, _if_}
 use Rattle.refusals.specs.Numbers.{answered}
 use Rattle.refusals.specs.declared.Answer.{Answer}
 use Rattle.refusals.proofs.Checks.{call-passed, call-refused, none-left}
-use Rattle.parameters.specs.Sets.{setOf}
-use Rattle.opening.specs.Program.{sameSet}
+use Rattle.parameters.specs.Sets.{setOf, sameSet}
 use Rattle.opening.specs.Steps.{after, openingArrays}
 use Rattle.opening.proofs.messages.open_pair.Statement.{statement}
 use Rattle.opening.proofs.messages.open_pair.Tie as tie
