@@ -20,7 +20,8 @@ use Rattle.files.specs.Files.{fileNumbers, fileBytes, numbersFrom, arrayAt, byt
 use Rattle.heads.specs.Calls.{marked, versionOne, headChecks}
 use Rattle.files.specs.Calls.{setChecks, contentChecks, readingChecks, reading, writingChecks, writing}
 use Rattle.lines.specs.Lines.{decimal, hexDigit, hex}
-use Rattle.opening.specs.Program.{firstLength, fileChecks, inverseChecks, pairChecks, messageOf, openingPair, openingFiles, openingLine}
+use Rattle.opened_files.specs.Pairs.{firstLength, fileChecks, inverseChecks, pairChecks, messageOf, openingPair, openingFiles}
+use Rattle.opening.specs.Program.{openingLine}
 use Rattle.worked_examples.specs.Rows.{Rows-hold}
 
 -- a remainder, computed by `modQ`
