@@ -25,7 +25,8 @@ use Rattle.heads.proofs.ArraysOfKinds.{kind-small}
 use Rattle.heads.proofs.Numbers.{Fits16, signed-bits, bits-signed, bits-lt, number-bytes, bytes-number, number-lt}
 use Rattle.files.proofs.Lists.{Fitting, fitting-small, bytes-length, numbers-length, numbers-of-bytes, bytes-of-numbers}
 use Rattle.heads.proofs.HeadChecks.{Head, head-passed, PartsFit, parts-fit}
-use Rattle.files.proofs.Passed.{contents-passed, contents-small, file-bytes}
+use Rattle.files.proofs.Passed.{contents-passed, file-bytes}
+use Rattle.files.proofs.SmallArrays.{contents-small}
 
 -- ---- a file that is written
 

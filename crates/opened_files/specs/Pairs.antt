@@ -1,6 +1,6 @@
 -- A private file and a sealed one, opened (document 01, 'Files' and 'Where each number is checked').
 use mathlib.Core.Bool.{not}
-use mathlib.Core.List.{List, [], _∷_, _++_}
+use mathlib.Core.List.{List, _∷_, _++_}
 use Prim.Native.Nat.{ℕ}
 use lib.IntN.{ℤ}
 use lib.ListN.{take, drop}

@@ -27,7 +27,7 @@ fn open_private_in(
 {
     let n = p.n;
     let k = files::file_numbers(heads::kinds::PRIVATE, n);
-    match files::read(heads::kinds::PRIVATE, first, &mut numbers[..k]) {
+    match file_reading::read(heads::kinds::PRIVATE, first, &mut numbers[..k]) {
         Answer::Done => open_sealed(p, second, numbers, message),
         Answer::Refused(refusal) => Opened::Refused(refusal),
     }

@@ -22,7 +22,7 @@ fn read_sealed(n: u32, m: u32, file: &[u8], numbers: &mut [i32]) -> Answer
 {
     let f2_end = 4 * (n as usize);
     let end = f2_end + 2 * (m as usize);
-    files::read(heads::kinds::SEALED, file, &mut numbers[f2_end..end])
+    file_reading::read(heads::kinds::SEALED, file, &mut numbers[f2_end..end])
 }
 
 fn open_sealed_in(
