@@ -21,6 +21,7 @@ use Rattle.arrays.proofs.Sizes.{units-small, reduced2-small, reducedQ-small}
 use Rattle.heads.specs.Kinds.{arraysOf}
 use Rattle.files.specs.Files.{fileNumbers}
 use Rattle.files.specs.Calls.{setChecks}
+use Rattle.files.proofs.SetChecks.{first-judged}
 
 set-small : (p : ParameterSet) → Accepted p → (a : ArraySet) (x : List ℤ) → length x ≡ 2 * p .N → T (inSet p a x) → Small x
 set-small p ok F x e t = units-small (p .N) (p .t) x e t
@@ -39,11 +40,10 @@ small-joined n l h r k = go (decLt k n)
         rw (getD-drop, e) at (r (k - n))
 
 arrays-small : (p : ParameterSet) → Accepted p → (sets : List ArraySet) (l : List ℤ) → length l ≡ 2 * p .N * length sets → Passes (setChecks p sets l) → Small l
-unfolding setChecks
 arrays-small p ok [] [] e c = λ k. lit≤ tt
 arrays-small p ok [] (z ∷ l) e c = absurd (omega arith)
 arrays-small p ok (a ∷ sets) l e c =
-    let q = done-holds (notInSet a) (inSet p a (take (2 * p .N) l)) _ _ _ c in
+    let q = done-holds (notInSet a) (inSet p a (take (2 * p .N) l)) _ _ _ (rw (first-judged p a sets l) at c) in
     small-joined (2 * p .N) l
     (set-small p ok a (take (2 * p .N) l) (length-take (2 * p .N) l ∙ omega arith) (q .0))
     (arrays-small p ok sets (drop (2 * p .N) l) (length-drop (2 * p .N) l ∙ omega arith) (q .1))
