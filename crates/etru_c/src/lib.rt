@@ -205,7 +205,7 @@ pub extern "C" fn etru_read_head(
 pub extern "C" fn etru_read(kind: u32, file: &[u8], numbers: &mut [i32]) -> u32
     ensures { λ r. ⌜ Gives (reading kind (now (file .entry)) (length (now (numbers .entry)))) r (now (numbers .entry)) (now (numbers .exit)) ⌝ }
 {
-    files::read(kind, file, numbers).number()
+    file_reading::read(kind, file, numbers).number()
 }
 
 // A file of this kind, to file. The numbers are its arrays, one after another in stored order.
@@ -223,7 +223,7 @@ pub extern "C" fn etru_write(
     ensures { λ r. ⌜ Gives (writing kind (set n c d s t) (now (numbers .entry)) (length (now (file .entry)))) r (now (file .entry)) (now (file .exit)) ⌝ }
 {
     let p = Parameters { n, c, d, s, t };
-    files::write(kind, p, numbers, file).number()
+    file_writing::write(kind, p, numbers, file).number()
 }
 
 // The line that the opening program prints for its input, to the front of line, and its length to used. Any input has its line, so 7 for a line that is not lent with 515 bytes is the only refusal.

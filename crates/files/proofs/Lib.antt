@@ -1,5 +1,6 @@
 pub mod Bounds
 pub mod Lists
-pub mod Passed
-pub mod RoundTrips
 pub mod SetChecks
+pub mod Passed
+pub mod SmallArrays
+pub mod RoundTrips

@@ -1,28 +1,16 @@
 -- Lists of signed 16-bit numbers, and their bytes.
 use mathlib.Core.Path.{_≡_, refl, _∙_, ap, ap₂}
 use mathlib.Core.List.{List, [], _∷_, _++_}
-use Prim.Native.Nat.{ℕ, zero, suc, _+_, _-_, _*_, _/_, _%_, _≤_, _<_}
+use Prim.Native.Nat.{ℕ, zero, suc, _+_, _-_, _*_, _/_, _%_, _<_}
 use native.Mathlib.Omega.{arith}
-use native.Mathlib.Decide.{decLt}
-use lib.Dec.{T, lit≤}
-use lib.IntN.{ℤ, pos, natAbs}
-use lib.ListN.{length, getD, take, drop, length-take, length-drop}
-use lib.Seq.{take-all, getD-take, getD-drop}
-use Rattle.refusals.specs.Outcomes.{Passes}
-use Rattle.refusals.proofs.Checks.{done-holds}
+use lib.IntN.{ℤ, pos}
+use lib.ListN.{length, getD, take, drop, length-drop}
+use lib.Seq.{take-all}
 use Rattle.parameters.specs.Sets.{ParameterSet}
-use Rattle.polynomials.specs.Polynomials.{coefficient}
-use Rattle.polynomials.proofs.Members.{sum-zero-units}
 use Rattle.packing.specs.Promises.{Bytes}
 use Rattle.arrays.specs.Arrays.{Small}
-use Rattle.array_sets.specs.Sets.{inSet, notInSet}
-use Rattle.array_sets.specs.declared.ArraySet.{ArraySet}
-use Rattle.array_sets.specs.declared.ArraySet.the-variants.{F, G, Phi, ReducedModulo2, ReducedModuloQ}
-use Rattle.parameters.proofs.AcceptedParameters.{Accepted, modulus-nonzero}
-use Rattle.arrays.proofs.Sizes.{units-small, reduced2-small, reducedQ-small}
 use Rattle.heads.specs.Heads.{bytes16, number16, bits16, signed16}
 use Rattle.files.specs.Files.{numbersFrom, arrayAt, bytesOf}
-use Rattle.files.specs.Calls.{setChecks}
 use Rattle.heads.proofs.Numbers.{Fits16, fits-small, signed-bits, bits-signed, number-bytes, bytes-number, number-lt}
 
 -- ---- one number, by its place
@@ -101,33 +89,7 @@ bytes-of-numbers (high ∷ []) b e = absurd (omega arith)
 bytes-of-numbers (high ∷ low ∷ l) b e =
     ap₂ _++_ (ap bytes16 (bits-signed (number-lt (b 0) (b 1))) ∙ bytes-number high low (b 1)) (bytes-of-numbers l (λ k. b (suc (suc k))) (omega arith))
 
--- ---- arrays in their sets have small numbers, which fit
+-- ---- small numbers fit
 
 pub fitting-small : (l : List ℤ) → Small l → Fitting l
 fitting-small l h k = fits-small (getD l k (pos 0)) (h k)
-
-pub set-small : (p : ParameterSet) → Accepted p → (a : ArraySet) (x : List ℤ) → length x ≡ 2 * p .N → T (inSet p a x) → Small x
-set-small p ok F x e t = units-small (p .N) (p .t) x e t
-set-small p ok G x e t = units-small (p .N) (p .s) x e (sum-zero-units (p .N) (p .s) (coefficient x) t)
-set-small p ok Phi x e t = units-small (p .N) (p .s) x e (sum-zero-units (p .N) (p .s) (coefficient x) t)
-set-small p ok ReducedModulo2 x e t = reduced2-small (p .N) x e t
-set-small p ok ReducedModuloQ x e t = reducedQ-small (p .N) (p .q) x (ok .q-small) (modulus-nonzero p ok) e t
-
-small-joined : (n : ℕ) (l : List ℤ) → Small (take n l) → Small (drop n l) → Small l
-small-joined n l h r k = go (decLt k n)
-  where
-    go : Dec (k < n) → natAbs (getD l k (pos 0)) ≤ 5461
-    go (yes p) = rw getD-take at (h k)
-    go (no p) =
-        let e : n + (k - n) ≡ k = omega arith in
-        rw (getD-drop, e) at (r (k - n))
-
-pub arrays-small : (p : ParameterSet) → Accepted p → (sets : List ArraySet) (l : List ℤ) → length l ≡ 2 * p .N * length sets → Passes (setChecks p sets l) → Small l
-unfolding setChecks
-arrays-small p ok [] [] e c = λ k. lit≤ tt
-arrays-small p ok [] (z ∷ l) e c = absurd (omega arith)
-arrays-small p ok (a ∷ sets) l e c =
-    let q = done-holds (notInSet a) (inSet p a (take (2 * p .N) l)) _ _ _ c in
-    small-joined (2 * p .N) l
-    (set-small p ok a (take (2 * p .N) l) (length-take (2 * p .N) l ∙ omega arith) (q .0))
-    (arrays-small p ok sets (drop (2 * p .N) l) (length-drop (2 * p .N) l ∙ omega arith) (q .1))

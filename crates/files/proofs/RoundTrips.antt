@@ -26,7 +26,8 @@ use Rattle.heads.proofs.Numbers.{Fits16, signed-bits, bits-signed, bits-lt, num
 use Rattle.files.proofs.Lists.{Fitting, fitting-small, bytes-length, numbers-length, numbers-of-bytes, bytes-of-numbers}
 use Rattle.heads.proofs.PartsFit.{PartsFit, parts-fit}
 use Rattle.head_reading.proofs.HeadChecks.{Head, head-passed}
-use Rattle.files.proofs.Passed.{contents-passed, contents-small, file-bytes}
+use Rattle.files.proofs.Passed.{contents-passed, file-bytes}
+use Rattle.files.proofs.SmallArrays.{contents-small}
 
 -- ---- a file that is written
 

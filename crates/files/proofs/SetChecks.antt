@@ -1,11 +1,11 @@
 -- The checks of a file's arrays, array by array.
-use mathlib.Core.Path.{_≡_, sym, _∙_, ap, ap₂}
+use mathlib.Core.Path.{_≡_, refl, sym, _∙_, ap, ap₂}
 use mathlib.Core.List.{List, [], _∷_}
 use Prim.Native.Nat.{ℕ, _+_, _*_, _<_}
 use native.Mathlib.Nat.{mul-zero, mul-suc}
 use native.Mathlib.Numerals.{add-one}
 use lib.IntN.{ℤ}
-use lib.ListN.{length, getD, drop}
+use lib.ListN.{length, getD, take, drop}
 use lib.Seq.{drop-cons, drop-drop, drop-length}
 use Rattle.refusals.specs.Outcomes.{Check, refused, outcome, Passes}
 use Rattle.refusals.proofs.Checks.{passed-all, refused-first, none-left}
@@ -15,6 +15,11 @@ use Rattle.array_sets.specs.declared.ArraySet.the-variants.{ReducedModuloQ}
 use Rattle.array_sets.proofs.ArrayChecks.{own}
 use Rattle.files.specs.Files.{arrayAt}
 use Rattle.files.specs.Calls.{setChecks}
+
+-- the first array is judged before the others
+pub first-judged : (p : ParameterSet) (a : ArraySet) (sets : List ArraySet) (l : List ℤ) → setChecks p (a ∷ sets) l ≡ own p a (take (2 * p .N) l) ∷ setChecks p sets (drop (2 * p .N) l)
+unfolding setChecks
+first-judged p a sets l = refl
 
 module _ (p : ParameterSet) (arrays : List ArraySet) (l : List ℤ) where
   -- the set of array k, and the checks from array k on

@@ -1,27 +1,12 @@
-// Files: reading a file of a wanted kind, and writing one.
-// It works on lent bytes, opens no file of the system, and does not test whether F2 and Fq are inverses.
-// Each call ends with a result, or with document 01's first refusal that applies, and then its output is as it came.
-// At every N `read` takes less than 10 KiB of stack, and each other call less than 1 KiB.
+// Files: what a file of a kind is, what reading and writing one give, both round trips, and its lengths.
+// It works on no bytes: reading and writing are crates of their own.
 ghost use mathlib.Core.Path.{_≡_};
 ghost use lib.IntN.{pos};
-ghost use lib.ListN.{length, replicate};
-ghost use Rattle.refusals.specs.Outcomes.{number, Gives};
-ghost use Rattle.refusals.specs.Numbers.{answered};
-ghost use Rattle.parameters.specs.Sets.{setOf};
+ghost use lib.ListN.{replicate};
 ghost use Rattle.files.specs.Files.{fileNumbers, fileBytes};
-ghost use Rattle.files.specs.Calls.{reading, writing};
-
-mod contents;
-mod reading;
-mod stored;
-mod writing;
-
+ghost use Rattle.files.specs.Calls.{rightLengths};
 use heads::HEAD_BYTES;
 use heads::kinds;
-use parameters::Made;
-use parameters::Parameters;
-use refusals::Answer;
-use refusals::Refusal;
 
 // The lengths of a file of this kind, in bytes and in numbers of its arrays.
 pub fn file_bytes(kind: u32, n: u32) -> usize
@@ -45,25 +30,12 @@ pub fn four_arrays() -> [i32; 8192]
     [0i32; 8192]
 }
 
-// The arrays of a file of the wanted kind, one after another in stored order, to numbers.
-pub fn read(kind: u32, file: &[u8], numbers: &mut [i32]) -> Answer
-    ensures { λ r. ⌜ Gives (reading kind (now (file .entry)) (length (now (numbers .entry)))) (number (answered r)) (now (numbers .entry)) (now (numbers .exit)) ⌝ }
+// Whether a file of this kind and its numbers have these lengths.
+pub fn lengths_right(kind: u32, n: u32, numbers: usize, file: usize) -> bool
+    ensures { λ r. ⌜ r ≡ rightLengths kind n numbers file ⌝ }
 {
-    match head_reading::read_head(kind, file) {
-        Made::Accepted(p) => reading::read_content(kind, p, file, numbers),
-        Made::Refused(refusal) => Answer::Refused(refusal),
+    if file == file_bytes(kind, n) {
+        return numbers == file_numbers(kind, n);
     }
-}
-
-// A file of this kind, to file. The numbers are its arrays, one after another in stored order.
-pub fn write(kind: u32, p: Parameters, numbers: &[i32], file: &mut [u8]) -> Answer
-    ensures { λ r. ⌜ Gives (writing kind (setOf p) (now (numbers .entry)) (length (now (file .entry)))) (number (answered r)) (now (file .entry)) (now (file .exit)) ⌝ }
-{
-    if !kinds::known_kind(kind) {
-        return Answer::Refused(Refusal::KindNotWanted);
-    }
-    match p.check() {
-        Answer::Done => writing::write_content(kind, p, numbers, file),
-        Answer::Refused(refusal) => Answer::Refused(refusal),
-    }
+    false
 }

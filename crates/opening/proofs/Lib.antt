@@ -1,11 +1,3 @@
-pub mod Answers
-pub mod FirstBytes
-pub mod InputParts
-pub mod JoinedArrays
-pub mod KeptArrays
 pub mod LineRoom
 pub mod LongInput
-pub mod Parts
-pub mod ReadFiles
-pub mod ReadKeys
 pub mod WrittenFiles

@@ -19,9 +19,10 @@ use Rattle.head_reading.specs.Calls.{headChecks}
 use Rattle.files.specs.Calls.{contentChecks, readingChecks}
 use Rattle.files.proofs.Passed.{file-bytes}
 use Rattle.files.proofs.Bounds.{numbers-few}
-use Rattle.opening.proofs.FirstBytes.{head-of-start, checks-of-start}
+use Rattle.opened_files.proofs.FirstBytes.{head-of-start, checks-of-start}
 use Rattle.lines.specs.Lines.{lineOf}
-use Rattle.opening.specs.Program.{firstLength, fileChecks, openingPair, openingFiles, openingLine}
+use Rattle.opened_files.specs.Pairs.{firstLength, fileChecks, openingPair, openingFiles}
+use Rattle.opening.specs.Program.{openingLine}
 use Rattle.opening.specs.Promises.{Long-input-line}
 
 -- ---- outcomes that begin with the same checks are the same, if they are so where those are passed

@@ -14,7 +14,7 @@ use Rattle.refusals.specs.Outcomes.{done, outcome, Passes}
 use Rattle.refusals.proofs.Checks.{holds-passed, none-left, done-passed, done-parts, done-all, passed-all, done-with}
 use Rattle.eisenstein.specs.Values.{same}
 use Rattle.eisenstein.proofs.Equality.{same-true}
-use Rattle.parameters.specs.Sets.{ParameterSet, parameterChecks}
+use Rattle.parameters.specs.Sets.{ParameterSet, parameterChecks, sameSet}
 use Rattle.polynomials.specs.Polynomials.{coefficient, convolution, one, congruentQ, congruent2}
 use Rattle.packing.specs.Messages.{messageBytes}
 use Rattle.array_sets.specs.declared.ArraySet.the-variants.{F, G, ReducedModulo2, ReducedModuloQ}
@@ -31,10 +31,11 @@ use Rattle.heads.proofs.ArraysOfKinds.{private-arrays, sealed-arrays}
 use Rattle.files.proofs.Passed.{file-bytes}
 use Rattle.files.proofs.RoundTrips.{reading-undoes-writing}
 use Rattle.lines.specs.Lines.{decimal, lineOf}
-use Rattle.opening.specs.Program.{firstLength, fileChecks, sameSet, pairChecks, inverseChecks, messageOf, openingPair, openingFiles, openingLine}
+use Rattle.opened_files.specs.Pairs.{firstLength, fileChecks, pairChecks, inverseChecks, messageOf, openingPair, openingFiles}
+use Rattle.opening.specs.Program.{openingLine}
 use Rattle.opening.specs.Promises.{OpensFiles, Written-files-open}
-use Rattle.opening.proofs.JoinedArrays.{first-array, later-array, first-check, last-check}
-use Rattle.opening.proofs.ReadFiles.{Read, read-done}
+use Rattle.opened_files.proofs.JoinedArrays.{first-array, later-array, first-check, last-check}
+use Rattle.opened_files.proofs.ReadFiles.{Read, read-done}
 
 -- ---- writing, where all is in order
 

@@ -2,53 +2,21 @@
 // It reads and prints nothing itself. Any input has its line. At every N the work takes less than 72 KiB of stack.
 ghost use mathlib.Core.Path.{_≡_};
 ghost use mathlib.Core.List.{_++_};
-ghost use Prim.Native.Nat.{min};
 ghost use lib.ListN.{length, drop};
 ghost use Rattle.refusals.specs.Outcomes.{number, Gives};
 ghost use Rattle.refusals.specs.Numbers.{answered};
 ghost use Rattle.lines.specs.Lines.{lineOf};
-ghost use Rattle.opening.specs.Program.{openingFiles, openingLine, lineWriting, lineLength};
-ghost use Rattle.opening.specs.Steps.{openedIs};
-
-mod keys;
-mod messages;
-mod private_files;
-mod sealed_files;
-
+ghost use Rattle.opened_files.specs.Pairs.{openedIs};
+ghost use Rattle.opening.specs.Program.{openingLine, lineWriting, lineLength};
 use lines::LINE_BYTES;
-use parameters::Made;
+use opened_files::Opened;
+use opened_files::least;
+use opened_files::open_input;
 use refusals::Answer;
 use refusals::Refusal;
 
-// A message of so many bytes, or the first refusal.
-pub(crate) enum Opened {
-    Message(usize),
-    Refused(Refusal),
-}
-
-pub(crate) fn least(x: usize, y: usize) -> usize
-    ensures { λ r. ⌜ r ≡ min x y ⌝ }
-{
-    if x < y {
-        return x;
-    }
-    y
-}
-
-fn open_input(input: &[u8], message: &mut [u8]) -> Opened
-    requires { ⌜ length (now message) ≡ 256 ⌝ }
-    ensures { λ r. ⌜ openedIs r (now (message .exit)) ≡ openingFiles (now (input .entry)) ⌝ }
-{
-    match head_reading::read_head(heads::kinds::PRIVATE, input) {
-        Made::Accepted(p) => private_files::open_private(p, input, message),
-        Made::Refused(refusal) => Opened::Refused(refusal),
-    }
-}
-
 // Room for the longest message.
-fn largest() -> [u8; 256]
-    ensures { λ r. ⌜ length r ≡ 256 ⌝ }
-{
+fn largest() -> [u8; 256] {
     [0u8; 256]
 }
 
@@ -68,8 +36,8 @@ fn write_opened(opened: Opened, message: &[u8], line: &mut [u8]) -> usize
 }
 
 // The message goes to a lent one.
-fn write_line_in(input: &[u8], message: &mut [u8], line: &mut [u8]) -> usize
-    requires { ⌜ (length (now message) ≡ 256) × (length (now line) ≡ 515) ⌝ }
+fn write_line_in(input: &[u8], message: &mut [u8; 256], line: &mut [u8]) -> usize
+    requires { ⌜ length (now line) ≡ 515 ⌝ }
     ensures { λ r. ⌜ (r ≡ length (openingLine (now (input .entry)))) × (now (line .exit) ≡ openingLine (now (input .entry)) ++ drop r (now (line .entry))) ⌝ }
 {
     let opened = open_input(input, message);
@@ -81,8 +49,7 @@ fn write_line(input: &[u8], line: &mut [u8]) -> usize
     ensures { λ r. ⌜ (r ≡ length (openingLine (now (input .entry)))) × (now (line .exit) ≡ openingLine (now (input .entry)) ++ drop r (now (line .entry))) ⌝ }
 {
     let mut message = largest();
-    let all = 256;
-    write_line_in(input, &mut message[..all], line)
+    write_line_in(input, &mut message, line)
 }
 
 // The line that the opening program prints for its input, to the front of line, and its length to used. Any input has its line, so the call refuses only a line that is not lent with LINE_BYTES bytes.

@@ -9,7 +9,7 @@ use Rattle.eisenstein.specs.Reduction.{Remainder, modQ, mod2, bit, cell, corner
 use Rattle.eisenstein.specs.Calls.{beyond}
 use Rattle.eisenstein.proofs.Equality.{same-yes, same-true}
 use Rattle.eisenstein.proofs.Remainders.{modQ-is-remainder}
-use Rattle.parameters.specs.Sets.{outside, even, bound, parameterChecks, parameters}
+use Rattle.parameters.specs.Sets.{outside, even, bound, parameterChecks, parameters, sameSet}
 use Rattle.polynomials.specs.Polynomials.{coefficient, array, sum, convolution, one, all, count, nonzero, among, unitsOnly, unitsOfSumZero, reducedQ, reduced2, congruentQ, congruent2}
 use Rattle.packing.specs.Messages.{bitOf, pair, packed, spareBitSet, messageBit, byte, listed, unpacked}
 use Rattle.etru.specs.Scheme.{publicKey, sealed, opened}
@@ -20,7 +20,8 @@ use Rattle.files.specs.Files.{fileNumbers, fileBytes, numbersFrom, arrayAt, byt
 use Rattle.head_reading.specs.Calls.{marked, versionOne, headChecks}
 use Rattle.files.specs.Calls.{setChecks, contentChecks, readingChecks, reading, writingChecks, writing}
 use Rattle.lines.specs.Lines.{decimal, hexDigit, hex}
-use Rattle.opening.specs.Program.{firstLength, fileChecks, sameSet, inverseChecks, pairChecks, messageOf, openingPair, openingFiles, openingLine}
+use Rattle.opened_files.specs.Pairs.{firstLength, fileChecks, inverseChecks, pairChecks, messageOf, openingPair, openingFiles}
+use Rattle.opening.specs.Program.{openingLine}
 use Rattle.worked_examples.specs.Rows.{Rows-hold}
 
 -- a remainder, computed by `modQ`

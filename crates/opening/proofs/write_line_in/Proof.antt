@@ -17,9 +17,8 @@ write-line-in-spec =
     (λ c κs. search needs)
     (λ c κs. search needs)
     (λ c. search needs)
-    (λ c. search needs)
     (λ c.
     let w = c .before .before in
-    let s = w .before .before .before .before .before .before .before .before .before .before in
-    let e = ap lineOf (c .before .before .before .before .before .before .before .open-input .ensures) in
+    let s = w .before .before .before .before .before .before .before .before in
+    let e = ap lineOf (c .before .before .before .before .before .before .open-input .ensures) in
     (w .write-opened .ensures .0 ∙ ap length e, w .write-opened .ensures .1 ∙ ap (λ (x : List ℕ). x ++ drop (w .write-opened .result) (s .args .line .now)) e)))

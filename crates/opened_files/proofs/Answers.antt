@@ -1,0 +1,30 @@
+-- Answers as outcomes: by their numbers, and one after another.
+use mathlib.Core.Path.{_≡_, refl, sym}
+use mathlib.Core.List.{List, _++_}
+use lib.Dec.{T}
+use Rattle.refusals.specs.Outcomes.{Check, Outcome, done, refused, outcome, number}
+use Rattle.refusals.specs.Numbers.{numberOf, answered}
+use Rattle.refusals.specs.declared.Answer.{Answer}
+use Rattle.refusals.specs.declared.Answer.the-variants.{Done, Refused}
+use Rattle.refusals.proofs.Checks.{positive, passed-all, refused-first, done-with, refused-with, done-by-number, refused-by-number}
+use Rattle.refusals.proofs.Numbers.{number-positive}
+use Rattle.opened_files.specs.Steps.{after}
+
+pub answer-by-number : (a : Answer) (cs : List Check) → T (positive cs) → number (answered a) ≡ number (outcome cs (tt {0})) → answered a ≡ outcome cs (tt {0})
+answer-by-number Done cs t e = sym (done-by-number cs (tt {0}) t (sym e))
+answer-by-number (Refused r) cs t e = sym (refused-by-number (outcome cs (tt {0})) (numberOf r) (number-positive r) (sym e))
+
+module _ {A : Type 0} (cs : List Check) where
+  pub after-checks : (ds : List Check) (a : A) → after (outcome cs (tt {0})) (outcome ds a) ≡ outcome (cs ++ ds) a
+  after-checks ds a = go (outcome cs (tt {0})) refl
+    where
+      go : (o : Outcome (Unit {0})) → outcome cs (tt {0}) ≡ o → after o (outcome ds a) ≡ outcome (cs ++ ds) a
+      go (done _) e = sym (passed-all cs ds a e)
+      go (refused n) e = sym (refused-first cs ds a n e)
+
+  pub after-done : (a : A) → after (outcome cs (tt {0})) (done a) ≡ outcome cs a
+  after-done a = go (outcome cs (tt {0})) refl
+    where
+      go : (o : Outcome (Unit {0})) → outcome cs (tt {0}) ≡ o → after o (done a) ≡ outcome cs a
+      go (done _) e = sym (done-with cs a e)
+      go (refused n) e = sym (refused-with cs a n e)
