@@ -16,8 +16,8 @@ use Rattle.arrays.specs.declared.ArraySet.the-variants.{Phi, ReducedModuloQ}
 use Rattle.arrays.proofs.ArrayChecks.{own, own-passed, own-refused}
 use Rattle.packing.specs.Messages.{messageBytes, spareBitSet}
 use Rattle.etru.specs.Calls.{sealingChecks}
-use Rattle.sealing.proofs.checks.sealing_refusal.Statement.{statement}
-use Rattle.sealing.proofs.checks.sealing_refusal.Tie as tie
+use Rattle.sealing_refusals.proofs.sealing_refusal.Statement.{statement}
+use Rattle.sealing_refusals.proofs.sealing_refusal.Tie as tie
 
 abbrev P : tie.Start → ParameterSet
 P s = setOf (s .args .p)

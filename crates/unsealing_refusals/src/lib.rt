@@ -1,4 +1,5 @@
-// Opening's refusals, in document 01's order: those of the parameter set, 7 for all lengths, then f, F2 and e.
+// The refusals of opening: the first that applies, in document 01's order.
+// It opens nothing, and does not ask whether F2 is the inverse of f.
 ghost use mathlib.Core.Path.{_≡_};
 ghost use mathlib.Core.List.{_++_};
 ghost use Rattle.refusals.specs.Outcomes.{outcome};
@@ -11,13 +12,8 @@ use parameters::Parameters;
 use refusals::Answer;
 use refusals::Refusal;
 
-pub(crate) fn opening_refusal(
-    p: Parameters,
-    f: &[i32],
-    f2: &[i32],
-    e: &[i32],
-    room: usize,
-) -> Answer
+// Those of the parameter set, 7 for all lengths, then f, F2 and e.
+pub fn opening_refusal(p: Parameters, f: &[i32], f2: &[i32], e: &[i32], room: usize) -> Answer
     ensures { λ r. ⌜ answered r ≡ outcome (parameterChecks (setOf p) ++ openingChecks (setOf p) (now (f .entry)) (now (f2 .entry)) (now (e .entry)) room) tt ⌝ }
 {
     let n = p.n;

@@ -1,4 +1,5 @@
-// Sealing's refusals, in document 01's order: those of the parameter set, 7 for all lengths, then h, φ and the message.
+// The refusals of sealing: the first that applies, in document 01's order.
+// It seals nothing.
 ghost use mathlib.Core.Path.{_≡_};
 ghost use mathlib.Core.List.{_++_};
 ghost use Rattle.refusals.specs.Outcomes.{outcome};
@@ -11,13 +12,8 @@ use parameters::Parameters;
 use refusals::Answer;
 use refusals::Refusal;
 
-pub(crate) fn sealing_refusal(
-    p: Parameters,
-    h: &[i32],
-    phi: &[i32],
-    message: &[u8],
-    room: usize,
-) -> Answer
+// Those of the parameter set, 7 for all lengths, then h, φ and the message.
+pub fn sealing_refusal(p: Parameters, h: &[i32], phi: &[i32], message: &[u8], room: usize) -> Answer
     ensures { λ r. ⌜ answered r ≡ outcome (parameterChecks (setOf p) ++ sealingChecks (setOf p) (now (h .entry)) (now (phi .entry)) (now (message .entry)) room) tt ⌝ }
 {
     let n = p.n;

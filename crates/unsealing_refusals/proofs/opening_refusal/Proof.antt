@@ -16,8 +16,8 @@ use Rattle.arrays.specs.declared.ArraySet.the-variants.{F, ReducedModulo2, Redu
 use Rattle.arrays.proofs.ArrayChecks.{own, own-check, own-passed, own-refused}
 use Rattle.packing.specs.Messages.{messageBytes}
 use Rattle.etru.specs.Calls.{openingChecks}
-use Rattle.unsealing.proofs.checks.opening_refusal.Statement.{statement}
-use Rattle.unsealing.proofs.checks.opening_refusal.Tie as tie
+use Rattle.unsealing_refusals.proofs.opening_refusal.Statement.{statement}
+use Rattle.unsealing_refusals.proofs.opening_refusal.Tie as tie
 
 abbrev P : tie.Start → ParameterSet
 P s = setOf (s .args .p)
