@@ -4,8 +4,8 @@ use mathlib.Core.Bool.{Bool, _&&_}
 use borrow.Author.Needs.{needs}
 use borrow.Author.Tests.{eq-eqb, ne-eqb}
 use Rattle.arrays.specs.Arrays.{full}
-use Rattle.key_check.proofs.checks.five_full.Statement.{statement}
-use Rattle.key_check.proofs.checks.five_full.Tie as tie
+use Rattle.key_check_refusals.proofs.five_full.Statement.{statement}
+use Rattle.key_check_refusals.proofs.five_full.Tie as tie
 
 -- the tests after the second, and after the first
 abbrev last : tie.Start → Bool
