@@ -8,7 +8,7 @@ ghost use Rattle.eisenstein.specs.Values.{value};
 ghost use Rattle.eisenstein.specs.Calls.{reduceQ, reduce2, answered};
 ghost use Rattle.parameters.specs.Sets.{set, parameters, made};
 ghost use Rattle.packing.specs.Calls.{packing, unpacking};
-ghost use Rattle.products.specs.Products.{convolving};
+ghost use Rattle.convolution.specs.Calls.{convolving};
 ghost use Rattle.etru.specs.Calls.{keyCheck, sealing, opening};
 ghost use Rattle.heads.specs.Calls.{readingHead};
 ghost use Rattle.files.specs.Calls.{reading, writing};
@@ -73,7 +73,7 @@ pub extern "C" fn etru_convolve(
     ensures { λ r. ⌜ Gives (convolving (set n c d s t) (now (x .entry)) (now (y .entry)) (length (now (out .entry)))) r (now (out .entry)) (now (out .exit)) ⌝ }
 {
     let p = Parameters { n, c, d, s, t };
-    products::convolve(p, x, y, out).number()
+    convolution::convolve(p, x, y, out).number()
 }
 
 // Checks a key. The public key goes to h.

@@ -10,7 +10,7 @@ use arrays::at;
 use eisenstein::Pair;
 
 // Stores one coefficient.
-pub(crate) fn store(out: &mut [i32], i: usize, v: Pair)
+fn store(out: &mut [i32], i: usize, v: Pair)
     requires { ⌜ (i < 1024) × (2 * i + 1 < length (now out)) ⌝ }
     ensures { λ _. ⌜ now (out .exit) ≡ set (set (now (out .entry)) (2 * i) (v .a)) (2 * i + 1) (v .b) ⌝ }
 {

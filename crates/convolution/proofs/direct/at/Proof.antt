@@ -8,8 +8,8 @@ use lib.ListN.{getD}
 use mir.Syntax.{w32, w64}
 use mir.Val.{SFits}
 use Rattle.integers.proofs.Machine.{cast-fits, cast-read}
-use Rattle.products.proofs.direct.at.Statement.{statement}
-use Rattle.products.proofs.direct.at.Tie as tie
+use Rattle.convolution.proofs.direct.at.Statement.{statement}
+use Rattle.convolution.proofs.direct.at.Tie as tie
 
 -- the element, which is a number of 32 bits
 abbrev element : tie.After-result → ℤ

@@ -11,8 +11,8 @@ use Rattle.integers.proofs.Machine.{Leaf, given, fits, exact, size-read}
 use Rattle.eisenstein.specs.Values.{ℤ[ω], value, _*ω_}
 use Rattle.eisenstein.proofs.Solver.{ringω, parts, _≐_, _⊠_}
 use Rattle.polynomials.specs.Polynomials.{coefficient}
-use Rattle.products.proofs.direct.product.Statement.{statement}
-use Rattle.products.proofs.direct.product.Tie as tie
+use Rattle.convolution.proofs.direct.product.Statement.{statement}
+use Rattle.convolution.proofs.direct.product.Tie as tie
 
 -- a number that was read is within the arrays' bound
 read-bound : (l : List ℤ) (k : ℕ) {z : ℤ} → ((i : ℕ) → natAbs (getD l i (pos 0)) ≤ 8191) → z ≡ getD l k (pos 0) → natAbs z ≤ 8191

@@ -9,8 +9,8 @@ use mir.Val.{toZ}
 use Rattle.integers.proofs.Machine.{sum-fits, sum-read, sum-size}
 use Rattle.eisenstein.specs.Values.{ℤ[ω], value, _+ω_, _*ω_}
 use Rattle.polynomials.specs.Polynomials.{coefficient, sum}
-use Rattle.products.proofs.direct.dot.Statement.{statement}
-use Rattle.products.proofs.direct.dot.Tie as tie
+use Rattle.convolution.proofs.direct.dot.Statement.{statement}
+use Rattle.convolution.proofs.direct.dot.Tie as tie
 
 abbrev terms : List ℤ → List ℤ → ℕ → ℕ → ℕ → ℤ[ω]
 terms x y from base j = coefficient x (from + j) *ω coefficient y (base - (from + j))

@@ -8,8 +8,7 @@ ghost use Rattle.eisenstein.specs.Reduction.{modQ};
 ghost use Rattle.polynomials.specs.Polynomials.{coefficient, array, sum, convolution};
 ghost use Rattle.arrays.specs.Arrays.{Small};
 ghost use Rattle.arrays.specs.Conditions.{Modulus};
-ghost use Rattle.products.specs.Conditions.{Full};
-use crate::reductions::store;
+ghost use Rattle.convolution.specs.Conditions.{Full};
 use eisenstein::Wide;
 
 // One number of an array, without the test that `arrays::at` makes.
@@ -89,9 +88,13 @@ pub(crate) fn convolve_q(x: &[i32], y: &[i32], n: usize, c: i32, d: i32, out: &m
     let mut i = 0;
     while i < n {
         let w = coefficient_of(x, y, n, i);
-        let a = w.a;
-        let b = w.b;
-        store(out, i, eisenstein::remainder_q(a, b, c, d));
+        let wa = w.a;
+        let wb = w.b;
+        let r = eisenstein::remainder_q(wa, wb, c, d);
+        let a = r.a;
+        let b = r.b;
+        out[2 * i] = a;
+        out[2 * i + 1] = b;
         i += 1;
     }
 }

@@ -13,8 +13,8 @@ use Rattle.eisenstein.proofs.Equality.{is-true, is-false}
 use Rattle.parameters.specs.Sets.{setOf, parameterChecks}
 use Rattle.polynomials.specs.Polynomials.{coefficient, reducedQ}
 use Rattle.arrays.specs.Arrays.{full, arrayChecks, arrayCheck}
-use Rattle.products.proofs.checks.is_reduced.Statement.{statement}
-use Rattle.products.proofs.checks.is_reduced.Tie as tie
+use Rattle.convolution.proofs.checks.is_reduced.Statement.{statement}
+use Rattle.convolution.proofs.checks.is_reduced.Tie as tie
 
 abbrev test : tie.Start → Bool
 test s = reducedQ (s .args .p .n) (value (s .args .p .c) (s .args .p .d)) (coefficient (s .args .x .now))

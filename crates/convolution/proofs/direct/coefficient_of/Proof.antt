@@ -11,8 +11,8 @@ use Rattle.integers.proofs.Machine.{Leaf, given, fits, exact}
 use Rattle.eisenstein.specs.Values.{value, _+ω_}
 use Rattle.polynomials.specs.Polynomials.{coefficient}
 use Rattle.polynomials.proofs.Eisenstein.{convolution-split}
-use Rattle.products.proofs.direct.coefficient_of.Statement.{statement}
-use Rattle.products.proofs.direct.coefficient_of.Tie as tie
+use Rattle.convolution.proofs.direct.coefficient_of.Statement.{statement}
+use Rattle.convolution.proofs.direct.coefficient_of.Tie as tie
 
 abbrev ρ : tie.After-dot2 → List Leaf
 ρ c =

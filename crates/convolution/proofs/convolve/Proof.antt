@@ -13,11 +13,11 @@ use Rattle.eisenstein.specs.Reduction.{modQ}
 use Rattle.eisenstein.proofs.Pairs.{pair-read}
 use Rattle.parameters.specs.Sets.{ParameterSet, setOf, parameterChecks}
 use Rattle.polynomials.specs.Polynomials.{coefficient, array, convolution}
-use Rattle.products.specs.Products.{convolvingChecks, convolving}
+use Rattle.convolution.specs.Calls.{convolvingChecks, convolving}
 use Rattle.arrays.proofs.Sizes.{modulus-handed}
-use Rattle.products.proofs.Operands.{convolving-passed}
-use Rattle.products.proofs.convolve.Statement.{statement}
-use Rattle.products.proofs.convolve.Tie as tie
+use Rattle.convolution.proofs.Operands.{convolving-passed}
+use Rattle.convolution.proofs.convolve.Statement.{statement}
+use Rattle.convolution.proofs.convolve.Tie as tie
 
 abbrev P : tie.Start → ParameterSet
 P s = setOf (s .args .p)
