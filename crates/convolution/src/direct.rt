@@ -90,7 +90,7 @@ pub(crate) fn convolve_q(x: &[i32], y: &[i32], n: usize, c: i32, d: i32, out: &m
         let w = coefficient_of(x, y, n, i);
         let wa = w.a;
         let wb = w.b;
-        let r = eisenstein::remainder_q(wa, wb, c, d);
+        let r = remainders::remainder_q(wa, wb, c, d);
         let a = r.a;
         let b = r.b;
         out[2 * i] = a;

@@ -5,7 +5,8 @@ ghost use mathlib.Core.Path.{_≡_};
 ghost use lib.ListN.{length};
 ghost use Rattle.refusals.specs.Outcomes.{number, Gives};
 ghost use Rattle.eisenstein.specs.Values.{value};
-ghost use Rattle.eisenstein.specs.Calls.{reduceQ, reduce2, answered};
+ghost use Rattle.eisenstein.specs.Calls.{reduce2, answered};
+ghost use Rattle.remainders.specs.Calls.{reduceQ};
 ghost use Rattle.parameters.specs.Sets.{set, parameters, made};
 ghost use Rattle.packing.specs.Calls.{packing, unpacking};
 ghost use Rattle.convolution.specs.Calls.{convolving};
@@ -38,7 +39,7 @@ fn give(answer: Reduced, ra: &mut i32, rb: &mut i32) -> u32
 pub extern "C" fn etru_reduce_q(a: i64, b: i64, c: i32, d: i32, ra: &mut i32, rb: &mut i32) -> u32
     ensures { λ r. ⌜ Gives (reduceQ (value c d) (value a b)) r (value (now (ra .entry)) (now (rb .entry))) (value (now (ra .exit)) (now (rb .exit))) ⌝ }
 {
-    give(eisenstein::reduce_q(a, b, c, d), ra, rb)
+    give(remainders::reduce_q(a, b, c, d), ra, rb)
 }
 
 // The remainder of (a, b) modulo 2, to ra and rb.

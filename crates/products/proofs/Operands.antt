@@ -9,9 +9,11 @@ use mir.Facts.{and-yes}
 use Rattle.refusals.specs.Outcomes.{written}
 use Rattle.eisenstein.specs.Values.{ℤ[ω], 𝟘, same}
 use Rattle.eisenstein.specs.Reduction.{modQ}
-use Rattle.eisenstein.specs.Calls.{beyond, reduceQ}
+use Rattle.eisenstein.specs.Calls.{beyond}
 use Rattle.eisenstein.proofs.Equality.{same-true, same-false}
-use Rattle.eisenstein.proofs.Limits.{not-beyond, remainder-is}
+use Rattle.eisenstein.proofs.Limits.{not-beyond}
+use Rattle.remainders.specs.Calls.{reduceQ}
+use Rattle.remainders.proofs.Limits.{remainder-is}
 use Rattle.arrays.specs.Conditions.{Modulus}
 use Rattle.products.specs.Products.{usable}
 

@@ -27,7 +27,7 @@ fn remainder_q_at(x: &[i32], i: usize, c: i32, d: i32) -> Pair
 {
     let a = at(x, 2 * i);
     let b = at(x, 2 * i + 1);
-    eisenstein::remainder_q(a, b, c, d)
+    remainders::remainder_q(a, b, c, d)
 }
 
 // The same modulo 2.

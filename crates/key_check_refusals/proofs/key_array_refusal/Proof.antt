@@ -13,7 +13,6 @@ use Rattle.parameters.specs.Sets.{ParameterSet, setOf, parameterChecks}
 use Rattle.arrays.specs.Arrays.{full, arrayCheck}
 use Rattle.arrays.specs.declared.ArraySet.the-variants.{F, G, ReducedModulo2, ReducedModuloQ}
 use Rattle.arrays.proofs.ArrayChecks.{own, own-check, own-passed, own-refused}
-use Rattle.etru.specs.Calls.{keyArrayChecks}
 use Rattle.key_check_refusals.proofs.key_array_refusal.Statement.{statement}
 use Rattle.key_check_refusals.proofs.key_array_refusal.Tie as tie
 

@@ -8,8 +8,9 @@ use mir.Syntax.{w32, w64}
 use mir.Val.{toZ, ofZ}
 use Rattle.eisenstein.specs.Values.{ℤ[ω], value}
 use Rattle.eisenstein.specs.Reduction.{modQ}
-use Rattle.eisenstein.proofs.Limits.{not-beyond, remainder-is}
+use Rattle.eisenstein.proofs.Limits.{not-beyond}
 use Rattle.eisenstein.proofs.Pairs.{pair-read}
+use Rattle.remainders.proofs.Limits.{remainder-is}
 use Rattle.polynomials.specs.Polynomials.{coefficient, array, convolution}
 use Rattle.arrays.proofs.Changing.{Changed, changed-none, stored-next, stored-all}
 use Rattle.arrays.proofs.Sizes.{modulus-handed, read-64, small-64}
