@@ -1,5 +1,5 @@
-// The ring Z[ω]: its definitions and laws, the six units, the norm, the limits of a value and a modulus, and one value reduced modulo 2.
-// Reduction modulo q is `remainders`; arrays of values and parameter sets are not this crate's business.
+// The ring Z[ω]: its definitions and laws, the six units, the norm, the limits of a value and of a modulus, and one value reduced modulo 2.
+// Its code reduces nothing modulo q. Arrays of values and parameter sets are not this crate's business.
 ghost use mathlib.Core.Path.{_≡_};
 ghost use Prim.Native.Nat.{_≤_, _%_, _^_};
 ghost use lib.Dec.{ltb, eqb};

@@ -1,5 +1,5 @@
-// One value of Z[ω] reduced modulo q.
-// Whether a value is its own remainder is asked without a division, in `own_remainders`.
+// One value of Z[ω] reduced modulo q, with its refusals.
+// Whether a value is its own remainder is not asked here: that needs no division.
 ghost use mathlib.Core.Path.{_≡_};
 ghost use mathlib.Core.Logic.{_≢_};
 ghost use Prim.Native.Nat.{_≤_, _^_};
