@@ -36,7 +36,7 @@ fn own_remainder_q_at(x: &[i32], i: usize, c: i32, d: i32) -> bool
 {
     let a = x[2 * i];
     let b = x[2 * i + 1];
-    eisenstein::is_remainder(a, b, c, d)
+    own_remainders::is_remainder(a, b, c, d)
 }
 
 fn own_remainder_2_at(x: &[i32], i: usize) -> bool

@@ -7,7 +7,5 @@ pub mod Cover
 pub mod Remainders
 pub mod Modulo2
 pub mod Units
-pub mod Corners
 pub mod Limits
 pub mod Pairs
-pub mod Neighbours

@@ -1,4 +1,4 @@
--- The outcomes of the calls on one value (document 01, 'Where each number is checked').
+-- The limits of a value, and the outcome of the call modulo 2 (document 01, 'Where each number is checked').
 use mathlib.Core.Bool.{Bool, _||_}
 use mathlib.Core.List.{[], _∷_}
 use Prim.Native.Nat.{ℕ, _^_}
@@ -6,18 +6,14 @@ use lib.Dec.{ltb}
 use lib.IntN.{ℤ, natAbs}
 use Rattle.refusals.specs.Outcomes.{Outcome, done, refused, outcome, _if_}
 use Rattle.refusals.specs.Numbers.{numberOf}
-use Rattle.eisenstein.specs.Values.{ℤ[ω], value, 𝟘, same}
-use Rattle.eisenstein.specs.Reduction.{modQ, mod2}
+use Rattle.eisenstein.specs.Values.{ℤ[ω], value}
+use Rattle.eisenstein.specs.Reduction.{mod2}
 use Rattle.eisenstein.specs.declared.Reduced.{Reduced}
 use Rattle.eisenstein.specs.declared.Reduced.the-variants.{Remainder, Refused}
 
 -- a part is below −m or above m
 unfoldable pub beyond : ℕ → ℤ[ω] → Bool
 beyond m x = ltb m (natAbs (x .a)) || ltb m (natAbs (x .b))
-
--- "One value modulo q: 2, 21, 22."
-unfoldable pub reduceQ : ℤ[ω] → ℤ[ω] → Outcome ℤ[ω]
-reduceQ q x = outcome (2 if beyond 4095 q ∷ 21 if same q 𝟘 ∷ 22 if beyond (2 ^ 40) x ∷ []) (modQ q x)
 
 -- "Modulo 2: 22."
 unfoldable pub reduce2 : ℤ[ω] → Outcome ℤ[ω]

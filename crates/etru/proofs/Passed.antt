@@ -1,13 +1,13 @@
 -- What the checks of each call leave, where all are passed: an accepted parameter set, lengths, numbers small enough to compute with, and arrays of zeros and units.
-use mathlib.Core.Path.{_≡_}
+use mathlib.Core.Path.{_≡_, _∙_, ap}
 use mathlib.Core.Bool.{_&&_}
-use mathlib.Core.List.{List, _++_}
+use mathlib.Core.List.{List, _++_, append-assoc}
 use Prim.Native.Nat.{ℕ, _*_}
 use lib.Dec.{T, eqb}
 use lib.IntN.{ℤ}
 use lib.ListN.{length}
 use Rattle.integers.proofs.Tests.{are-equal-4, are-equal-5}
-use Rattle.refusals.specs.Outcomes.{Passes}
+use Rattle.refusals.specs.Outcomes.{Check, outcome, Passes}
 use Rattle.refusals.proofs.Checks.{done-holds, done-all}
 use Rattle.parameters.specs.Sets.{ParameterSet, parameterChecks}
 use Rattle.parameters.proofs.AcceptedParameters.{Accepted, accepted-parameters, modulus-nonzero}
@@ -16,7 +16,7 @@ use Rattle.polynomials.proofs.Members.{sum-zero-units}
 use Rattle.arrays.specs.Arrays.{full, Small}
 use Rattle.arrays.proofs.Sizes.{AllUnits, reducedQ-small, units-all, reduced2-all}
 use Rattle.packing.specs.Messages.{messageBytes}
-use Rattle.etru.specs.Calls.{keyChecks, sealingChecks, openingChecks}
+use Rattle.etru.specs.Calls.{keyArrayChecks, inverseChecks, keyChecks, sealingChecks, openingChecks}
 
 -- an array of full length, whose numbers are small
 pub record Ready (N : ℕ) (l : List ℤ) : Type 0 where
@@ -81,17 +81,22 @@ module _ (p : ParameterSet) where
         room-is = l .0;
       }
 
-  pub record Checking (Fq g : List ℤ) (room : ℕ) : Type 0 where
-    pub accepted : Accepted p
-    pub Fq-ready : Ready N Fq
-    pub g-units : Units N g
+  -- what the key check has asked before the inverses
+  pub record InSets (f F2 Fq g : List ℤ) (room : ℕ) : Type 0 where
+    pub passes : Passes (parameterChecks p)
+    pub f-full : length f ≡ 2 * N
+    pub F2-full : length F2 ≡ 2 * N
+    pub Fq-full : length Fq ≡ 2 * N
+    pub g-full : length g ≡ 2 * N
     pub room-is : room ≡ 2 * N
+    pub f-units : T (unitsOnly N t (coefficient f))
+    pub F2-reduced : T (reduced2 N (coefficient F2))
+    pub Fq-reduced : T (reducedQ N q (coefficient Fq))
+    pub g-sum-zero : T (unitsOfSumZero N s (coefficient g))
 
-  pub key-passed : (f F2 Fq g : List ℤ) (room : ℕ) → Passes (parameterChecks p ++ keyChecks p f F2 Fq g room) → Checking Fq g room
-  unfolding keyChecks
-  key-passed f F2 Fq g room d =
+  pub key-arrays-passed : (f F2 Fq g : List ℤ) (room : ℕ) → Passes (parameterChecks p ++ keyArrayChecks p f F2 Fq g room) → InSets f F2 Fq g room
+  key-arrays-passed f F2 Fq g room d =
       let (e6, e7) = done-all (parameterChecks p) _ _ _ d in
-      let a = accepted-parameters p e6 in
       let k7 = done-holds 7 (full N (length f) && (full N (length F2) && (full N (length Fq) && (full N (length g) && full N room)))) _ _ _ e7 in
       let k8 = done-holds 8 (unitsOnly N t (coefficient f)) _ _ _ (k7 .1) in
       let k11 = done-holds 11 (reduced2 N (coefficient F2)) _ _ _ (k8 .1) in
@@ -99,8 +104,36 @@ module _ (p : ParameterSet) where
       let k9 = done-holds 9 (unitsOfSumZero N s (coefficient g)) _ _ _ (k12 .1) in
       let l = are-equal-5 (length f) (2 * N) (length F2) (2 * N) (length Fq) (2 * N) (length g) (2 * N) room (2 * N) (k7 .0) in
       record {
-        accepted = a;
-        Fq-ready = remainders a Fq (l .2) (k12 .0);
-        g-units = record { long = l .3; units = units-all N s (coefficient g) (sum-zero-units N s (coefficient g) (k9 .0)) };
+        passes = e6;
+        f-full = l .0;
+        F2-full = l .1;
+        Fq-full = l .2;
+        g-full = l .3;
         room-is = l .4;
+        f-units = k8 .0;
+        F2-reduced = k11 .0;
+        Fq-reduced = k12 .0;
+        g-sum-zero = k9 .0;
+      }
+
+  -- the inverses are asked last
+  pub key-checks-apart : (f F2 Fq g : List ℤ) (room : ℕ) → outcome ((parameterChecks p ++ keyArrayChecks p f F2 Fq g room) ++ inverseChecks p f F2 Fq) (tt {0}) ≡ outcome (parameterChecks p ++ keyChecks p f F2 Fq g room) (tt {0})
+  unfolding keyChecks
+  key-checks-apart f F2 Fq g room = ap (λ (cs : List Check). outcome cs (tt {0})) (append-assoc (parameterChecks p) (keyArrayChecks p f F2 Fq g room) (inverseChecks p f F2 Fq))
+
+  pub record Checking (Fq g : List ℤ) (room : ℕ) : Type 0 where
+    pub accepted : Accepted p
+    pub Fq-ready : Ready N Fq
+    pub g-units : Units N g
+    pub room-is : room ≡ 2 * N
+
+  pub key-passed : (f F2 Fq g : List ℤ) (room : ℕ) → Passes (parameterChecks p ++ keyChecks p f F2 Fq g room) → Checking Fq g room
+  key-passed f F2 Fq g room d =
+      let k = key-arrays-passed f F2 Fq g room (done-all (parameterChecks p ++ keyArrayChecks p f F2 Fq g room) (inverseChecks p f F2 Fq) _ _ (key-checks-apart f F2 Fq g room ∙ d) .0) in
+      let a = accepted-parameters p (k .passes) in
+      record {
+        accepted = a;
+        Fq-ready = remainders a Fq (k .Fq-full) (k .Fq-reduced);
+        g-units = record { long = k .g-full; units = units-all N s (coefficient g) (sum-zero-units N s (coefficient g) (k .g-sum-zero)) };
+        room-is = k .room-is;
       }

@@ -14,7 +14,17 @@ use Rattle.etru.specs.Scheme.{publicKey, sealed, opened}
 
 -- "Every operation below on a parameter set begins so, then 7."
 
--- The key check's last two: "f × F2 not 1 modulo 2", "f × Fq not 1 modulo q".
+-- The key check's first five: 7 for all lengths, then f, F2, Fq and g.
+abbrev pub keyArrayChecks : ParameterSet → (f F2 Fq g : List ℤ) → ℕ → List Check
+keyArrayChecks p f F2 Fq g room =
+    7 if not (full (p .N) (length f) && (full (p .N) (length F2) && (full (p .N) (length Fq) && (full (p .N) (length g) && full (p .N) room))))
+    ∷ 8 if not (unitsOnly (p .N) (p .t) (coefficient f))
+    ∷ 11 if not (reduced2 (p .N) (coefficient F2))
+    ∷ 12 if not (reducedQ (p .N) (p .q) (coefficient Fq))
+    ∷ 9 if not (unitsOfSumZero (p .N) (p .s) (coefficient g))
+    ∷ []
+
+-- Its last two: "f × F2 not 1 modulo 2", "f × Fq not 1 modulo q".
 abbrev pub inverseChecks : ParameterSet → (f F2 Fq : List ℤ) → List Check
 inverseChecks p f F2 Fq =
     13 if not (congruent2 (p .N) (convolution (p .N) (coefficient f) (coefficient F2)) one)
@@ -23,13 +33,7 @@ inverseChecks p f F2 Fq =
 
 -- "Key check: 8, 11, 12, 9, 13, 14." It writes h.
 unfoldable pub keyChecks : ParameterSet → (f F2 Fq g : List ℤ) → ℕ → List Check
-keyChecks p f F2 Fq g room =
-    7 if not (full (p .N) (length f) && (full (p .N) (length F2) && (full (p .N) (length Fq) && (full (p .N) (length g) && full (p .N) room))))
-    ∷ 8 if not (unitsOnly (p .N) (p .t) (coefficient f))
-    ∷ 11 if not (reduced2 (p .N) (coefficient F2))
-    ∷ 12 if not (reducedQ (p .N) (p .q) (coefficient Fq))
-    ∷ 9 if not (unitsOfSumZero (p .N) (p .s) (coefficient g))
-    ∷ inverseChecks p f F2 Fq
+keyChecks p f F2 Fq g room = keyArrayChecks p f F2 Fq g room ++ inverseChecks p f F2 Fq
 
 unfoldable pub keyCheck : ParameterSet → (f F2 Fq g : List ℤ) → ℕ → Outcome (List ℤ)
 keyCheck p f F2 Fq g room =

@@ -5,11 +5,12 @@ ghost use mathlib.Core.Path.{_≡_};
 ghost use lib.ListN.{length};
 ghost use Rattle.refusals.specs.Outcomes.{number, Gives};
 ghost use Rattle.eisenstein.specs.Values.{value};
-ghost use Rattle.eisenstein.specs.Calls.{reduceQ, reduce2, answered};
+ghost use Rattle.eisenstein.specs.Calls.{reduce2, answered};
+ghost use Rattle.remainders.specs.Calls.{reduceQ};
 ghost use Rattle.parameters.specs.Sets.{set, parameters, made};
 ghost use Rattle.message_packing.specs.Calls.{packing};
 ghost use Rattle.message_unpacking.specs.Calls.{unpacking};
-ghost use Rattle.products.specs.Products.{convolving};
+ghost use Rattle.convolution.specs.Calls.{convolving};
 ghost use Rattle.etru.specs.Calls.{keyCheck, sealing, opening};
 ghost use Rattle.head_reading.specs.Calls.{readingHead};
 ghost use Rattle.files.specs.Calls.{reading, writing};
@@ -39,7 +40,7 @@ fn give(answer: Reduced, ra: &mut i32, rb: &mut i32) -> u32
 pub extern "C" fn etru_reduce_q(a: i64, b: i64, c: i32, d: i32, ra: &mut i32, rb: &mut i32) -> u32
     ensures { λ r. ⌜ Gives (reduceQ (value c d) (value a b)) r (value (now (ra .entry)) (now (rb .entry))) (value (now (ra .exit)) (now (rb .exit))) ⌝ }
 {
-    give(eisenstein::reduce_q(a, b, c, d), ra, rb)
+    give(remainders::reduce_q(a, b, c, d), ra, rb)
 }
 
 // The remainder of (a, b) modulo 2, to ra and rb.
@@ -74,7 +75,7 @@ pub extern "C" fn etru_convolve(
     ensures { λ r. ⌜ Gives (convolving (set n c d s t) (now (x .entry)) (now (y .entry)) (length (now (out .entry)))) r (now (out .entry)) (now (out .exit)) ⌝ }
 {
     let p = Parameters { n, c, d, s, t };
-    products::convolve(p, x, y, out).number()
+    convolution::convolve(p, x, y, out).number()
 }
 
 // Checks a key. The public key goes to h.

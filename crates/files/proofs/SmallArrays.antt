@@ -14,7 +14,8 @@ use Rattle.parameters.specs.Sets.{ParameterSet, parameterChecks}
 use Rattle.parameters.proofs.AcceptedParameters.{Accepted, accepted-parameters, modulus-nonzero}
 use Rattle.polynomials.specs.Polynomials.{coefficient}
 use Rattle.polynomials.proofs.Members.{sum-zero-units}
-use Rattle.arrays.specs.Arrays.{Small, inSet, notInSet}
+use Rattle.arrays.specs.Arrays.{Small}
+use Rattle.array_sets.specs.Sets.{inSet, notInSet}
 use Rattle.array_sets.specs.declared.ArraySet.{ArraySet}
 use Rattle.array_sets.specs.declared.ArraySet.the-variants.{F, G, Phi, ReducedModulo2, ReducedModuloQ}
 use Rattle.arrays.proofs.Sizes.{units-small, reduced2-small, reducedQ-small}
@@ -33,7 +34,7 @@ set-small p ok ReducedModuloQ x e t = reducedQ-small (p .N) (p .q) x (ok .q-smal
 small-joined : (n : ℕ) (l : List ℤ) → Small (take n l) → Small (drop n l) → Small l
 small-joined n l h r k = go (decLt k n)
   where
-    go : Dec (k < n) → natAbs (getD l k (pos 0)) ≤ 8191
+    go : Dec (k < n) → natAbs (getD l k (pos 0)) ≤ 5461
     go (yes p) = rw getD-take at (h k)
     go (no p) =
         let e : n + (k - n) ≡ k = omega arith in

@@ -177,6 +177,14 @@ cast-fits {w} {w′} t f = subst (SFits w′) (sym (toZ-ofZ f)) (sfits-widen t f
 pub cast-read : {w : Width} (w′ : Width) {z : ℤ} → T (leb (hbits w) (hbits w′)) → SFits w z → toZ w′ (ofZ w′ (toZ w (ofZ w z))) ≡ z
 cast-read w′ t f = toZ-ofZ (cast-fits t f) ∙ toZ-ofZ f
 
+-- ---- a number that is small enough, cast to a narrower width
+
+pub narrow-fits : {w w′ : Width} {b : ℕ} {z : ℤ} → SFits w z → natAbs z ≤ b → b < 2 ^ hbits w′ → SFits w′ (toZ w (ofZ w z))
+narrow-fits {w} {w′} {b} {z} f h l = subst (SFits w′) (sym (toZ-ofZ f)) (sfits-within z h l)
+
+pub narrow-read : {w : Width} (w′ : Width) {b : ℕ} {z : ℤ} → SFits w z → natAbs z ≤ b → b < 2 ^ hbits w′ → toZ w′ (ofZ w′ (toZ w (ofZ w z))) ≡ z
+narrow-read w′ f h l = toZ-ofZ (narrow-fits f h l) ∙ toZ-ofZ f
+
 -- ---- tests of order, as a branch leaves them: of a′ and b′ as the code has them, which are a and b
 
 pub lt-read : {a b a′ b′ : ℤ} → a′ ≡ a → b′ ≡ b → ltZ a′ b′ ≡ true → a <ℤ b

@@ -1,31 +1,14 @@
-// The key check's refusals, in document 01's order: those of the parameter set, 7 for all lengths, then array by array, then the inverses.
+// The key check's refusals, in document 01's order: those before the inverses, then 13 and 14.
 ghost use mathlib.Core.Path.{_≡_};
-ghost use mathlib.Core.Bool.{_&&_};
 ghost use mathlib.Core.List.{_++_};
 ghost use Rattle.refusals.specs.Outcomes.{outcome};
 ghost use Rattle.refusals.specs.Numbers.{answered};
 ghost use Rattle.parameters.specs.Sets.{setOf, parameterChecks};
-ghost use Rattle.arrays.specs.Arrays.{full};
 ghost use Rattle.etru.specs.Calls.{keyChecks};
 use crate::inverses::inverse_refusal;
-use array_sets::ArraySet;
-use array_sets::check_array;
-use arrays::three_full;
+use key_check_refusals::key_array_refusal;
 use parameters::Parameters;
 use refusals::Answer;
-use refusals::Refusal;
-
-fn five_full(n: u32, x: usize, y: usize, z: usize, u: usize, v: usize) -> bool
-    ensures { λ r. ⌜ r ≡ (full n x && (full n y && (full n z && (full n u && full n v)))) ⌝ }
-{
-    let long = 2 * (n as usize);
-    if x == long {
-        if y == long {
-            return three_full(n, z, u, v);
-        }
-    }
-    false
-}
 
 pub(crate) fn key_refusal(
     p: Parameters,
@@ -37,39 +20,8 @@ pub(crate) fn key_refusal(
 ) -> Answer
     ensures { λ r. ⌜ answered r ≡ outcome (parameterChecks (setOf p) ++ keyChecks (setOf p) (now (f .entry)) (now (f2 .entry)) (now (fq .entry)) (now (g .entry)) room) tt ⌝ }
 {
-    let n = p.n;
-    match p.check() {
-        Answer::Done => {}
-        Answer::Refused(refusal) => {
-            return Answer::Refused(refusal);
-        }
+    match key_array_refusal(p, f, f2, fq, g, room) {
+        Answer::Done => inverse_refusal(p, f, f2, fq),
+        Answer::Refused(refusal) => Answer::Refused(refusal),
     }
-    if !five_full(n, f.len(), f2.len(), fq.len(), g.len(), room) {
-        return Answer::Refused(Refusal::WrongLength);
-    }
-    match check_array(p, ArraySet::F, f) {
-        Answer::Done => {}
-        Answer::Refused(refusal) => {
-            return Answer::Refused(refusal);
-        }
-    }
-    match check_array(p, ArraySet::ReducedModulo2, f2) {
-        Answer::Done => {}
-        Answer::Refused(refusal) => {
-            return Answer::Refused(refusal);
-        }
-    }
-    match check_array(p, ArraySet::ReducedModuloQ, fq) {
-        Answer::Done => {}
-        Answer::Refused(refusal) => {
-            return Answer::Refused(refusal);
-        }
-    }
-    match check_array(p, ArraySet::G, g) {
-        Answer::Done => {}
-        Answer::Refused(refusal) => {
-            return Answer::Refused(refusal);
-        }
-    }
-    inverse_refusal(p, f, f2, fq)
 }

@@ -1,28 +1,7 @@
--- Convolution modulo q, and what is asked of a modulus. An output is known by its length, `room`.
+-- What is asked of a modulus.
 use mathlib.Core.Bool.{Bool, not, _&&_}
-use mathlib.Core.List.{List, [], _∷_, _++_}
-use Prim.Native.Nat.{ℕ}
-use lib.IntN.{ℤ}
-use lib.ListN.{length}
-use Rattle.refusals.specs.Outcomes.{Check, Outcome, outcome, _if_}
 use Rattle.eisenstein.specs.Values.{ℤ[ω], 𝟘, same}
-use Rattle.eisenstein.specs.Reduction.{modQ}
 use Rattle.eisenstein.specs.Calls.{beyond}
-use Rattle.parameters.specs.Sets.{ParameterSet, parameterChecks}
-use Rattle.polynomials.specs.Polynomials.{coefficient, array, convolution, reducedQ}
-use Rattle.arrays.specs.Arrays.{full}
-
--- "Every operation below on a parameter set begins so, then 7." "Convolution modulo q: 12."
-unfoldable pub convolvingChecks : ℕ → ℤ[ω] → (x y : List ℤ) → ℕ → List Check
-convolvingChecks N q x y room =
-    7 if not (full N (length x) && (full N (length y) && full N room))
-    ∷ 12 if not (reducedQ N q (coefficient x) && reducedQ N q (coefficient y))
-    ∷ []
-
-unfoldable pub convolving : ParameterSet → (x y : List ℤ) → ℕ → Outcome (List ℤ)
-convolving p x y room =
-    outcome (parameterChecks p ++ convolvingChecks (p .N) (p .q) x y room)
-    (array (p .N) (λ i. modQ (p .q) (convolution (p .N) (coefficient x) (coefficient y) i)))
 
 -- A modulus that refusals 2 and 21 do not refuse.
 unfoldable pub usable : ℤ[ω] → Bool

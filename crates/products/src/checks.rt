@@ -1,72 +1,7 @@
-// What is asked of a product's operands before it is formed.
+// Whether a modulus can be reduced by.
 ghost use mathlib.Core.Path.{_≡_};
-ghost use mathlib.Core.Bool.{_&&_};
-ghost use mathlib.Core.List.{_++_};
-ghost use Prim.Native.Nat.{_*_};
-ghost use lib.ListN.{length};
-ghost use Rattle.refusals.specs.Outcomes.{outcome, Passes};
-ghost use Rattle.refusals.specs.Numbers.{answered};
-ghost use Rattle.eisenstein.specs.Values.{value, 𝟘, same};
-ghost use Rattle.parameters.specs.Sets.{setOf, parameterChecks};
-ghost use Rattle.polynomials.specs.Polynomials.{coefficient, reducedQ};
-ghost use Rattle.products.specs.Products.{convolvingChecks, usable};
-use array_sets::ArraySet;
-use arrays::three_full;
-use parameters::Parameters;
-use refusals::Answer;
-use refusals::Refusal;
-
-fn is_reduced(p: Parameters, x: &[i32]) -> bool
-    requires { ⌜ Passes (parameterChecks (setOf p)) × (length (now x) ≡ 2 * p .n) ⌝ }
-    ensures { λ r. ⌜ r ≡ reducedQ (p .n) (value (p .c) (p .d)) (coefficient (now (x .entry))) ⌝ }
-{
-    match array_sets::check_array(p, ArraySet::ReducedModuloQ, x) {
-        Answer::Done => true,
-        Answer::Refused(_) => false,
-    }
-}
-
-fn both_reduced(p: Parameters, x: &[i32], y: &[i32]) -> bool
-    requires { ⌜ Passes (parameterChecks (setOf p)) × (length (now x) ≡ 2 * p .n) × (length (now y) ≡ 2 * p .n) ⌝ }
-    ensures { λ r. ⌜ r ≡ (reducedQ (p .n) (value (p .c) (p .d)) (coefficient (now (x .entry))) && reducedQ (p .n) (value (p .c) (p .d)) (coefficient (now (y .entry)))) ⌝ }
-{
-    if is_reduced(p, x) {
-        return is_reduced(p, y);
-    }
-    false
-}
-
-// The refusals of convolution after those of its parameter set.
-fn operand_refusal(p: Parameters, x: &[i32], y: &[i32], room: usize) -> Answer
-    requires { ⌜ Passes (parameterChecks (setOf p)) ⌝ }
-    ensures { λ r. ⌜ answered r ≡ outcome (convolvingChecks (p .n) (value (p .c) (p .d)) (now (x .entry)) (now (y .entry)) room) tt ⌝ }
-{
-    if !three_full(p.n, x.len(), y.len(), room) {
-        return Answer::Refused(Refusal::WrongLength);
-    }
-    if !both_reduced(p, x, y) {
-        return Answer::Refused(Refusal::NotReducedModuloQ);
-    }
-    Answer::Done
-}
-
-pub(crate) fn convolving_refusal(p: Parameters, x: &[i32], y: &[i32], room: usize) -> Answer
-    ensures { λ r. ⌜ answered r ≡ outcome (parameterChecks (setOf p) ++ convolvingChecks (p .n) (value (p .c) (p .d)) (now (x .entry)) (now (y .entry)) room) tt ⌝ }
-{
-    match p.check() {
-        Answer::Done => operand_refusal(p, x, y, room),
-        Answer::Refused(refusal) => Answer::Refused(refusal),
-    }
-}
-
-fn is_zero(c: i32, d: i32) -> bool
-    ensures { λ r. ⌜ r ≡ same (value c d) 𝟘 ⌝ }
-{
-    if c == 0 {
-        return d == 0;
-    }
-    false
-}
+ghost use Rattle.eisenstein.specs.Values.{value};
+ghost use Rattle.products.specs.Products.{usable};
 
 pub(crate) fn usable(c: i32, d: i32) -> bool
     ensures { λ r. ⌜ r ≡ usable (value c d) ⌝ }
@@ -74,5 +9,5 @@ pub(crate) fn usable(c: i32, d: i32) -> bool
     if eisenstein::modulus_out_of_range(c, d) {
         return false;
     }
-    !is_zero(c, d)
+    !eisenstein::is_zero(c as i64, d as i64)
 }

@@ -1,40 +1,18 @@
-// Products of arrays, reduced: convolution modulo q, and the product with an array of zeros and units modulo q and modulo 2.
+// Products of arrays, reduced: the product with an array of zeros and units, modulo q and modulo 2.
 // What an array stands for in the scheme is not this crate's business.
 // No function relies on its caller: each asks of its arrays what its arithmetic needs.
 ghost use mathlib.Core.Bool.{_&&_};
 ghost use lib.ListN.{length};
-ghost use Rattle.refusals.specs.Outcomes.{number, Gives};
-ghost use Rattle.refusals.specs.Numbers.{answered};
 ghost use Rattle.eisenstein.specs.Values.{value};
 ghost use Rattle.eisenstein.specs.Reduction.{modQ, mod2};
-ghost use Rattle.parameters.specs.Sets.{setOf};
 ghost use Rattle.polynomials.specs.Polynomials.{coefficient, array, convolution};
 ghost use Rattle.unit_products.specs.Products.{Forms, multipliable};
-ghost use Rattle.products.specs.Products.{convolving, usable};
+ghost use Rattle.products.specs.Products.{usable};
 
 mod checks;
-mod direct;
 mod reductions;
 
-use parameters::Parameters;
-use refusals::Answer;
 use unit_products::multiply_units;
-
-// x × y reduced modulo q, to out.
-pub fn convolve(p: Parameters, x: &[i32], y: &[i32], out: &mut [i32]) -> Answer
-    ensures { λ r. ⌜ Gives (convolving (setOf p) (now (x .entry)) (now (y .entry)) (length (now (out .entry)))) (number (answered r)) (now (out .entry)) (now (out .exit)) ⌝ }
-{
-    let n = p.n;
-    let c = p.c;
-    let d = p.d;
-    match checks::convolving_refusal(p, x, y, out.len()) {
-        Answer::Done => {
-            direct::convolve_q(x, y, n as usize, c, d, out);
-            Answer::Done
-        }
-        Answer::Refused(refusal) => Answer::Refused(refusal),
-    }
-}
 
 // x × y modulo q = (c, d), to out, where x is of zeros and units. Answers whether it was formed; nothing is written otherwise.
 pub fn multiply_units_modulo_q(

@@ -10,7 +10,7 @@ use arrays::at;
 use eisenstein::Pair;
 
 // Stores one coefficient.
-pub(crate) fn store(out: &mut [i32], i: usize, v: Pair)
+fn store(out: &mut [i32], i: usize, v: Pair)
     requires { ⌜ (i < 1024) × (2 * i + 1 < length (now out)) ⌝ }
     ensures { λ _. ⌜ now (out .exit) ≡ set (set (now (out .entry)) (2 * i) (v .a)) (2 * i + 1) (v .b) ⌝ }
 {
@@ -27,7 +27,7 @@ fn remainder_q_at(x: &[i32], i: usize, c: i32, d: i32) -> Pair
 {
     let a = at(x, 2 * i);
     let b = at(x, 2 * i + 1);
-    eisenstein::remainder_q(a, b, c, d)
+    remainders::remainder_q(a, b, c, d)
 }
 
 // The same modulo 2.

@@ -8,7 +8,6 @@ ghost use Rattle.refusals.specs.Numbers.{answered};
 ghost use Rattle.parameters.specs.Sets.{setOf};
 ghost use Rattle.etru.specs.Calls.{sealing};
 
-mod checks;
 mod sealed;
 
 use parameters::Parameters;
@@ -19,7 +18,7 @@ pub fn seal(p: Parameters, h: &[i32], phi: &[i32], message: &[u8], e: &mut [i32]
     ensures { λ r. ⌜ Gives (sealing (setOf p) (now (h .entry)) (now (phi .entry)) (now (message .entry)) (length (now (e .entry))))
         (number (answered r)) (now (e .entry)) (now (e .exit)) ⌝ }
 {
-    match checks::sealing_refusal(p, h, phi, message, e.len()) {
+    match sealing_refusals::sealing_refusal(p, h, phi, message, e.len()) {
         Answer::Done => {
             sealed::seal_into(p, h, phi, message, e);
             Answer::Done

@@ -28,7 +28,7 @@ fn sealed_at(p: Parameters, product: &[i32], message: &[u8], i: usize) -> Pair
     let mb = m.b;
     let a = pa + pa + ma as i64;
     let b = pb + pb + mb as i64;
-    eisenstein::remainder_q(a, b, c, d)
+    remainders::remainder_q(a, b, c, d)
 }
 
 // Turns the product φ × h into what is sealed.

@@ -8,7 +8,6 @@ ghost use Rattle.refusals.specs.Numbers.{answered};
 ghost use Rattle.parameters.specs.Sets.{setOf};
 ghost use Rattle.etru.specs.Calls.{opening};
 
-mod checks;
 mod opened;
 
 use parameters::Parameters;
@@ -19,7 +18,7 @@ pub fn open(p: Parameters, f: &[i32], f2: &[i32], e: &[i32], message: &mut [u8])
     ensures { λ r. ⌜ Gives (opening (setOf p) (now (f .entry)) (now (f2 .entry)) (now (e .entry)) (length (now (message .entry))))
         (number (answered r)) (now (message .entry)) (now (message .exit)) ⌝ }
 {
-    match checks::opening_refusal(p, f, f2, e, message.len()) {
+    match unsealing_refusals::opening_refusal(p, f, f2, e, message.len()) {
         Answer::Done => {
             opened::open_into(p, f, f2, e, message);
             Answer::Done

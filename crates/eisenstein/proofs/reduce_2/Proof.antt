@@ -1,8 +1,6 @@
 -- `reduce_2` meets its contract.
 use mathlib.Core.Path.{_≡_, sym, _∙_, ap}
 use Prim.Native.Nat.{_^_}
-use lib.Dec.{lit≤}
-use lib.Signed.{ltZ-yes}
 use Rattle.refusals.specs.Outcomes.{done}
 use Rattle.refusals.proofs.Checks.{refused-by, passed, none-left}
 use Rattle.eisenstein.specs.Values.{value}
@@ -13,15 +11,15 @@ use Rattle.eisenstein.proofs.reduce_2.Statement.{statement}
 use Rattle.eisenstein.proofs.reduce_2.Tie as tie
 
 -- the test, of the value itself
-tested : (c : tie.After-beyond) → beyond (2 ^ 40) (value (c .before .args .a) (c .before .args .b)) ≡ c .beyond .result
-tested c = sym (c .beyond .ensures ∙ ap (beyond (2 ^ 40)) (pair-read (c .before .fits .a) (c .before .fits .b)))
+tested : (c : tie.After-value-out-of-range) → beyond (2 ^ 40) (value (c .before .args .a) (c .before .args .b)) ≡ c .value-out-of-range .result
+tested c = sym (c .value-out-of-range .ensures ∙ ap (beyond (2 ^ 40)) (pair-read (c .before .fits .a) (c .before .fits .b)))
 
 pub reduce-2-spec : {M : Type 1} → statement M
 unfolding reduce2
 reduce-2-spec =
     tie.close
     (tie.spec
-    (λ c κs. (ltZ-yes tt, lit≤ tt))
+    (λ c κs. tt)
     (λ c. sym (refused-by 22 _ _ (tested (c .before) ∙ c .if1 .taken)))
     (λ c κs. tt)
     (λ c.

@@ -1,5 +1,5 @@
 -- `not_below_norm` meets its contract: the parts fit 16 bits, and nothing overflows.
-use mathlib.Core.Path.{_≡_, sym, _∙_, ap, ap₂, subst}
+use mathlib.Core.Path.{_≡_, sym, _∙_, ap, ap₂}
 use mathlib.Core.Bool.{not}
 use Prim.Native.Nat.{ℕ, _+_, _*_, _≤_, _<_}
 use native.Mathlib.Omega.{arith}
@@ -8,11 +8,9 @@ use native.Mathlib.Nat.{mul-le-mul}
 use borrow.Author.Needs.{needs}
 use borrow.Author.Tests.{lt-ltb, le-ltb, le-leb, lt-leb}
 use lib.Dec.{lit<, ltb, leb}
-use lib.IntN.{ℤ, natAbs}
-use mir.Syntax.{w16, w32}
-use mir.Val.{SFits, toZ, ofZ}
-use mir.Facts.{toZ-ofZ}
-use Rattle.integers.proofs.Machine.{sfits-within}
+use lib.IntN.{ℤ}
+use mir.Syntax.{w16}
+use Rattle.integers.proofs.Machine.{narrow-fits, narrow-read}
 use Rattle.eisenstein.specs.Values.{value, norm}
 use Rattle.eisenstein.proofs.Limits.{within}
 use Rattle.parameters.proofs.not_below_norm.Statement.{statement}
@@ -32,26 +30,19 @@ not-less m n = go (decLt m n)
     go (yes h) = lt-leb n m h ∙ sym (ap not (lt-ltb m n h))
     go (no h) = let k : n ≤ m = omega arith in le-leb n m k ∙ sym (ap not (le-ltb m n k))
 
--- a part of the modulus, cast to 16 bits
-narrow : {z : ℤ} → SFits w32 z → natAbs z ≤ 4095 → SFits w16 (toZ w32 (ofZ w32 z))
-narrow {z} f h = subst (SFits w16) (sym (toZ-ofZ f)) (sfits-within z h (lit< tt))
-
-narrow-read : {z : ℤ} → SFits w32 z → natAbs z ≤ 4095 → toZ w16 (ofZ w16 (toZ w32 (ofZ w32 z))) ≡ z
-narrow-read f h = toZ-ofZ (narrow f h) ∙ toZ-ofZ f
-
 pub not-below-norm-spec : {M : Type 1} → statement M
 not-below-norm-spec =
     tie.close
     (tie.spec
     (λ c. search needs)
     (λ c. search needs)
-    (λ c. narrow (c .fits .c) (within 4095 _ (c .pre .2) .0))
-    (λ c. narrow (c .fits .d) (within 4095 _ (c .pre .2) .1))
+    (λ c. narrow-fits (c .fits .c) (within 4095 _ (c .pre .2) .0) (lit< tt))
+    (λ c. narrow-fits (c .fits .d) (within 4095 _ (c .pre .2) .1) (lit< tt))
     (λ c κs. tt)
     (λ c. omega (arith, square (c .before)))
     (λ c. omega (arith, square (c .before)))
     (λ c.
     let s = c .before in
     let k = within 4095 (value (s .args .c) (s .args .d)) (s .pre .2) in
-    ap (λ (n : ℕ). leb n (4 * (width s * width s))) (c .norm .ensures ∙ ap₂ (λ (u v : ℤ). norm (value u v)) (narrow-read (s .fits .c) (k .0)) (narrow-read (s .fits .d) (k .1)))
+    ap (λ (n : ℕ). leb n (4 * (width s * width s))) (c .norm .ensures ∙ ap₂ (λ (u v : ℤ). norm (value u v)) (narrow-read w16 (s .fits .c) (k .0) (lit< tt)) (narrow-read w16 (s .fits .d) (k .1) (lit< tt)))
     ∙ not-less (4 * (width s * width s)) (norm (value (s .args .c) (s .args .d)))))

@@ -1,183 +1,54 @@
--- `key_refusal` meets its contract: each test is the definition's, in its order.
+-- `key_refusal` meets its contract: the checks before the inverses, then those of the inverses.
 use mathlib.Core.Path.{_≡_, sym, _∙_, ap}
-use mathlib.Core.Bool.{not, _&&_}
-use mathlib.Core.List.{List, _∷_, _++_}
-use Prim.Native.Nat.{_*_}
+use mathlib.Core.List.{List, _++_}
 use borrow.Author.Needs.{needs}
-use lib.ListN.{length}
-use Rattle.integers.proofs.Tests.{are-equal-5}
-use Rattle.refusals.specs.Outcomes.{Check, _if_, done, outcome, Passes}
+use Rattle.refusals.specs.Outcomes.{Check, outcome, Passes}
 use Rattle.refusals.specs.Numbers.{answered}
-use Rattle.refusals.proofs.Checks.{holds, call-passed, call-refused, passed-all, refused-first}
+use Rattle.refusals.proofs.Checks.{passed-all, refused-first}
 use Rattle.parameters.specs.Sets.{ParameterSet, setOf, parameterChecks}
-use Rattle.arrays.specs.Arrays.{full}
-use Rattle.array_sets.specs.Sets.{arrayCheck}
-use Rattle.array_sets.specs.declared.ArraySet.the-variants.{F, G, ReducedModulo2, ReducedModuloQ}
-use Rattle.array_sets.proofs.ArrayChecks.{own, in-set, own-passed, own-refused}
-use Rattle.etru.specs.Calls.{inverseChecks, keyChecks}
+use Rattle.etru.specs.Calls.{keyArrayChecks, inverseChecks, keyChecks}
+use Rattle.etru.proofs.Passed.{key-arrays-passed, key-checks-apart}
 use Rattle.key_check.proofs.checks.key_refusal.Statement.{statement}
 use Rattle.key_check.proofs.checks.key_refusal.Tie as tie
 
 abbrev P : tie.Start → ParameterSet
 P s = setOf (s .args .p)
 
--- the checks from each of them on
-abbrev from-13 : tie.Start → List Check
-from-13 s = inverseChecks (P s) (s .args .f .now) (s .args .f2 .now) (s .args .fq .now)
+abbrev first : tie.Start → List Check
+first s = parameterChecks (P s) ++ keyArrayChecks (P s) (s .args .f .now) (s .args .f2 .now) (s .args .fq .now) (s .args .g .now) (s .args .room)
 
-abbrev from-9 : tie.Start → List Check
-from-9 s = own (P s) G (s .args .g .now) ∷ from-13 s
+abbrev last : tie.Start → List Check
+last s = inverseChecks (P s) (s .args .f .now) (s .args .f2 .now) (s .args .fq .now)
 
-abbrev from-12 : tie.Start → List Check
-from-12 s = own (P s) ReducedModuloQ (s .args .fq .now) ∷ from-9 s
+apart : (s : tie.Start) → outcome (first s ++ last s) (tt {0}) ≡ outcome (parameterChecks (P s) ++ keyChecks (P s) (s .args .f .now) (s .args .f2 .now) (s .args .fq .now) (s .args .g .now) (s .args .room)) (tt {0})
+apart s = key-checks-apart (P s) (s .args .f .now) (s .args .f2 .now) (s .args .fq .now) (s .args .g .now) (s .args .room)
 
-abbrev from-11 : tie.Start → List Check
-from-11 s = own (P s) ReducedModulo2 (s .args .f2 .now) ∷ from-12 s
-
-abbrev from-8 : tie.Start → List Check
-from-8 s = own (P s) F (s .args .f .now) ∷ from-11 s
-
-abbrev from-7 : tie.Start → List Check
-from-7 s =
-    7 if not (full (P s .N) (length (s .args .f .now)) && (full (P s .N) (length (s .args .f2 .now)) && (full (P s .N) (length (s .args .fq .now)) && (full (P s .N) (length (s .args .g .now)) && full (P s .N) (s .args .room))))) ∷ from-8 s
-
-abbrev from-1 : tie.Start → List Check
-from-1 s = parameterChecks (P s) ++ from-7 s
-
--- the function's start, from each place on the way
-abbrev start : tie.After-enum-told → tie.Start
-start c = c .before .before .before
-
-abbrev start-7 : tie.Else1 → tie.Start
-start-7 c = start (c .before .before)
-
-abbrev start-8 : tie.After-enum-told2 → tie.Start
-start-8 c = start-7 (c .before .before .before)
-
-abbrev start-11 : tie.After-enum-told3 → tie.Start
-start-11 c = start-8 (c .before .before .before)
-
-abbrev start-12 : tie.After-enum-told4 → tie.Start
-start-12 c = start-11 (c .before .before .before)
-
-abbrev start-9 : tie.After-enum-told5 → tie.Start
-start-9 c = start-12 (c .before .before .before)
-
--- what the tests give
-accepted : (c : tie.Else1) → Passes (parameterChecks (P (start-7 c)))
-accepted c = let e = c .before .before in sym (e .before .before .check .ensures) ∙ ap answered (e .enum-told .given .1)
-
-lengths : (c : tie.Else1) → let s = start-7 c in (length (s .args .f .now) ≡ 2 * P s .N) × (length (s .args .f2 .now) ≡ 2 * P s .N) × (length (s .args .fq .now) ≡ 2 * P s .N) × (length (s .args .g .now) ≡ 2 * P s .N) × (s .args .room ≡ 2 * P s .N)
-lengths c = are-equal-5 _ _ _ _ _ _ _ _ _ _ (holds (c .before .five-full .ensures) (c .if1 .left))
-
-f-passed : (c : tie.After-enum-told2) → let s = start-8 c in arrayCheck (P s) F (s .args .f .now) ≡ done (tt {0})
-f-passed c = sym (c .before .before .check-array .ensures) ∙ ap answered (c .enum-told2 .given .1)
-
-f2-passed : (c : tie.After-enum-told3) → let s = start-11 c in arrayCheck (P s) ReducedModulo2 (s .args .f2 .now) ≡ done (tt {0})
-f2-passed c = sym (c .before .before .check-array2 .ensures) ∙ ap answered (c .enum-told3 .given .1)
-
-fq-passed : (c : tie.After-enum-told4) → let s = start-12 c in arrayCheck (P s) ReducedModuloQ (s .args .fq .now) ≡ done (tt {0})
-fq-passed c = sym (c .before .before .check-array3 .ensures) ∙ ap answered (c .enum-told4 .given .1)
-
-g-passed : (c : tie.After-enum-told5) → let s = start-9 c in arrayCheck (P s) G (s .args .g .now) ≡ done (tt {0})
-g-passed c = sym (c .before .before .check-array4 .ensures) ∙ ap answered (c .enum-told5 .given .1)
-
--- the checks that have been passed
-after-6 : (c : tie.After-enum-told) → outcome (from-1 (start c)) (tt {0}) ≡ outcome (from-7 (start c)) (tt {0})
-after-6 c = passed-all (parameterChecks (P (start c))) (from-7 (start c)) tt (sym (c .before .before .check .ensures) ∙ ap answered (c .enum-told .given .1))
-
-after-7 : (c : tie.Else1) → outcome (from-1 (start-7 c)) (tt {0}) ≡ outcome (from-8 (start-7 c)) (tt {0})
-after-7 c = after-6 (c .before .before) ∙ call-passed 7 _ tt (c .before .five-full .ensures) (c .if1 .left)
-
-after-8 : (c : tie.After-enum-told2) → outcome (from-1 (start-8 c)) (tt {0}) ≡ outcome (from-11 (start-8 c)) (tt {0})
-after-8 c =
-    let e = c .before .before .before in
-    let s = start-8 c in
-    after-7 e ∙ own-passed (P s) F (s .args .f .now) (accepted e) (lengths e .0) (from-11 s) tt (f-passed c)
-
-after-11 : (c : tie.After-enum-told3) → outcome (from-1 (start-11 c)) (tt {0}) ≡ outcome (from-12 (start-11 c)) (tt {0})
-after-11 c =
-    let t = c .before .before .before in
-    let e = t .before .before .before in
-    let s = start-11 c in
-    after-8 t ∙ own-passed (P s) ReducedModulo2 (s .args .f2 .now) (accepted e) (lengths e .1) (from-12 s) tt (f2-passed c)
-
-after-12 : (c : tie.After-enum-told4) → outcome (from-1 (start-12 c)) (tt {0}) ≡ outcome (from-9 (start-12 c)) (tt {0})
-after-12 c =
-    let t = c .before .before .before in
-    let e = t .before .before .before .before .before .before in
-    let s = start-12 c in
-    after-11 t ∙ own-passed (P s) ReducedModuloQ (s .args .fq .now) (accepted e) (lengths e .2) (from-9 s) tt (fq-passed c)
-
-after-9 : (c : tie.After-enum-told5) → outcome (from-1 (start-9 c)) (tt {0}) ≡ outcome (from-13 (start-9 c)) (tt {0})
-after-9 c =
-    let t = c .before .before .before in
-    let e = t .before .before .before .before .before .before .before .before .before in
-    let s = start-9 c in
-    after-12 t ∙ own-passed (P s) G (s .args .g .now) (accepted e) (lengths e .3) (from-13 s) tt (g-passed c)
+first-passed : (c : tie.After-enum-told) → Passes (first (c .before .before .before))
+first-passed c = sym (c .before .before .key-array-refusal .ensures) ∙ ap answered (c .enum-told .given .1)
 
 pub key-refusal-spec : {M : Type 1} → statement M
-unfolding keyChecks
 key-refusal-spec =
     tie.close
     (tie.spec
     (λ c κs. search needs)
     (λ c. search needs)
+    (λ c κs.
+    let s = c .before .before .before in
+    let k = key-arrays-passed (P s) (s .args .f .now) (s .args .f2 .now) (s .args .fq .now) (s .args .g .now) (s .args .room) (first-passed c) in
+    record {
+      accepted = k .passes;
+      f-full = k .f-full;
+      F2-full = k .F2-full;
+      Fq-full = k .Fq-full;
+      f-units = k .f-units;
+      F2-reduced = k .F2-reduced;
+      Fq-reduced = k .Fq-reduced;
+    })
     (λ c. search needs)
+    (λ c.
+    let s = c .before .before .before .before in
+    c .inverse-refusal .ensures ∙ sym (passed-all (first s) (last s) tt (first-passed (c .before))) ∙ apart s)
     (λ c.
     let r = c .before .before .before in
     let s = r .before in
-    sym (refused-first (parameterChecks (P s)) (from-7 s) tt _ (sym (r .check .ensures) ∙ ap answered (c .before .refusal .given .1))))
-    (λ c κs. search needs)
-    (λ c. sym (after-6 (c .before .before) ∙ call-refused 7 _ tt (c .before .five-full .ensures) (c .if1 .taken)))
-    (λ c κs. search needs)
-    (λ c. search needs)
-    (λ c. search needs)
-    (λ c.
-    let r = c .before .before .before in
-    let e = r .before in
-    let s = start-7 e in
-    sym (after-7 e ∙ own-refused (P s) F (s .args .f .now) (accepted e) (lengths e .0) (from-11 s) tt _ (sym (r .check-array .ensures) ∙ ap answered (c .before .refusal2 .given .1))))
-    (λ c κs. search needs)
-    (λ c. search needs)
-    (λ c. search needs)
-    (λ c.
-    let r = c .before .before .before in
-    let t = r .before in
-    let e = t .before .before .before in
-    let s = start-7 e in
-    sym (after-8 t ∙ own-refused (P s) ReducedModulo2 (s .args .f2 .now) (accepted e) (lengths e .1) (from-12 s) tt _ (sym (r .check-array2 .ensures) ∙ ap answered (c .before .refusal3 .given .1))))
-    (λ c κs. search needs)
-    (λ c. search needs)
-    (λ c. search needs)
-    (λ c.
-    let r = c .before .before .before in
-    let t = r .before in
-    let e = t .before .before .before .before .before .before in
-    let s = start-7 e in
-    sym (after-11 t ∙ own-refused (P s) ReducedModuloQ (s .args .fq .now) (accepted e) (lengths e .2) (from-9 s) tt _ (sym (r .check-array3 .ensures) ∙ ap answered (c .before .refusal4 .given .1))))
-    (λ c κs. search needs)
-    (λ c. search needs)
-    (λ c. search needs)
-    (λ c.
-    let r = c .before .before .before in
-    let t = r .before in
-    let e = t .before .before .before .before .before .before .before .before .before in
-    let s = start-7 e in
-    sym (after-12 t ∙ own-refused (P s) G (s .args .g .now) (accepted e) (lengths e .3) (from-13 s) tt _ (sym (r .check-array4 .ensures) ∙ ap answered (c .before .refusal5 .given .1))))
-    (λ c κs.
-    let q = c .before .before .before in
-    let two = q .before .before .before in
-    let f = two .before .before .before in
-    let e = f .before .before .before in
-    let s = start-9 c in
-    record {
-      accepted = accepted e;
-      f-full = lengths e .0;
-      F2-full = lengths e .1;
-      Fq-full = lengths e .2;
-      f-units = in-set (P s) F (s .args .f .now) (accepted e) (lengths e .0) (f-passed f);
-      F2-reduced = in-set (P s) ReducedModulo2 (s .args .f2 .now) (accepted e) (lengths e .1) (f2-passed two);
-      Fq-reduced = in-set (P s) ReducedModuloQ (s .args .fq .now) (accepted e) (lengths e .2) (fq-passed q);
-    })
-    (λ c. c .inverse-refusal .ensures ∙ sym (after-9 (c .before))))
+    sym (refused-first (first s) (last s) tt _ (sym (r .key-array-refusal .ensures) ∙ ap answered (c .before .refusal .given .1))) ∙ apart s))

@@ -15,8 +15,9 @@ use Rattle.integers.proofs.Machine.{Leaf, given, meanings, fits, exact, size, c
 use Rattle.refusals.specs.Outcomes.{written}
 use Rattle.eisenstein.specs.Values.{ℤ[ω], value, 𝟘, _+ω_}
 use Rattle.eisenstein.specs.Reduction.{modQ}
-use Rattle.eisenstein.specs.Calls.{reduceQ}
-use Rattle.eisenstein.proofs.Limits.{not-beyond, remainder-is}
+use Rattle.eisenstein.proofs.Limits.{not-beyond}
+use Rattle.remainders.specs.Calls.{reduceQ}
+use Rattle.remainders.proofs.Limits.{remainder-is}
 use Rattle.eisenstein.proofs.Pairs.{pair-read}
 use Rattle.parameters.specs.Sets.{setOf}
 use Rattle.parameters.proofs.AcceptedParameters.{accepted-parameters, modulus-nonzero}

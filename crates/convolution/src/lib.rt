@@ -1,0 +1,30 @@
+// Convolution modulo q: document 01's call, by direct sums.
+// It knows nothing of keys and messages, and no other product.
+// It ends with `Done`, or with document 01's first refusal that applies, and then its output is as it came.
+ghost use lib.ListN.{length};
+ghost use Rattle.refusals.specs.Outcomes.{number, Gives};
+ghost use Rattle.refusals.specs.Numbers.{answered};
+ghost use Rattle.parameters.specs.Sets.{setOf};
+ghost use Rattle.convolution.specs.Calls.{convolving};
+
+mod checks;
+mod direct;
+
+use parameters::Parameters;
+use refusals::Answer;
+
+// x × y reduced modulo q, to out.
+pub fn convolve(p: Parameters, x: &[i32], y: &[i32], out: &mut [i32]) -> Answer
+    ensures { λ r. ⌜ Gives (convolving (setOf p) (now (x .entry)) (now (y .entry)) (length (now (out .entry)))) (number (answered r)) (now (out .entry)) (now (out .exit)) ⌝ }
+{
+    let n = p.n;
+    let c = p.c;
+    let d = p.d;
+    match checks::convolving_refusal(p, x, y, out.len()) {
+        Answer::Done => {
+            direct::convolve_q(x, y, n as usize, c, d, out);
+            Answer::Done
+        }
+        Answer::Refused(refusal) => Answer::Refused(refusal),
+    }
+}
