@@ -14,6 +14,7 @@ ghost use Rattle.files.specs.Calls.{givenChecks, writingContent};
 use crate::contents::sets_refusal;
 use crate::stored::write_numbers;
 use files::lengths_right;
+use head_writing::write_head;
 use heads::HEAD_BYTES;
 use parameters::Parameters;
 use refusals::Answer;
