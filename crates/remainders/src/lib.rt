@@ -5,19 +5,20 @@ ghost use mathlib.Core.Logic.{_≢_};
 ghost use Prim.Native.Nat.{_≤_, _^_};
 ghost use lib.IntN.{pos, natAbs, _+ℤ_, _-ℤ_};
 ghost use lib.Signed.{_<ℤ_, shrZ};
-ghost use Rattle.refusals.specs.Outcomes.{written};
+ghost use Rattle.refusals.specs.Outcomes.{written, Passes};
 ghost use Rattle.eisenstein.specs.Values.{value, 𝟘, norm};
 ghost use Rattle.eisenstein.specs.Reduction.{better, best, corner, modQ};
 ghost use Rattle.eisenstein.specs.Calls.{answered};
-ghost use Rattle.remainders.specs.Calls.{reduceQ};
+ghost use Rattle.remainders.specs.Calls.{reductionChecks, reduceQ};
+
+mod checks;
+
+use crate::checks::reduction_refusal;
 use eisenstein::Pair;
 use eisenstein::Reduced;
 use eisenstein::Wide;
-use eisenstein::is_zero;
-use eisenstein::modulus_out_of_range;
 use eisenstein::norm;
-use eisenstein::value_out_of_range;
-use refusals::Refusal;
+use refusals::Answer;
 
 // x divided by n, rounded down.
 fn floor_quotient(x: i64, n: i64) -> i64
@@ -109,36 +110,36 @@ fn remainder(a: i64, b: i64, c: i64, d: i64) -> Wide
     best_corner(u, v, c, d)
 }
 
+// The same in 32 bits, where nothing is refused. The wide parts are cast here one by one: a pair that a function returns is read back whole, which a processor has to wait for.
+fn remainder_of(a: i64, b: i64, c: i32, d: i32) -> Pair
+    requires { ⌜ Passes (reductionChecks (value c d) (value a b)) ⌝ }
+    ensures { λ r. ⌜ value (r .a) (r .b) ≡ modQ (value c d) (value a b) ⌝ }
+{
+    let r = remainder(a, b, c as i64, d as i64);
+    let ra = r.a;
+    let rb = r.b;
+    Pair {
+        a: ra as i32,
+        b: rb as i32,
+    }
+}
+
 // One value (a, b) modulo q = (c, d): refusals 2, 21, 22, or the remainder.
 pub fn reduce_q(a: i64, b: i64, c: i32, d: i32) -> Reduced
     ensures { λ r. ⌜ answered r ≡ reduceQ (value c d) (value a b) ⌝ }
 {
-    if modulus_out_of_range(c, d) {
-        return Reduced::Refused(Refusal::ModulusPartOutOfRange);
+    match reduction_refusal(a, b, c, d) {
+        Answer::Done => Reduced::Remainder(remainder_of(a, b, c, d)),
+        Answer::Refused(refusal) => Reduced::Refused(refusal),
     }
-    let cw = c as i64;
-    let dw = d as i64;
-    if is_zero(cw, dw) {
-        return Reduced::Refused(Refusal::ModulusZero);
-    }
-    if value_out_of_range(a, b) {
-        return Reduced::Refused(Refusal::ValueOutOfRange);
-    }
-    let r = remainder(a, b, cw, dw);
-    let ra = r.a;
-    let rb = r.b;
-    Reduced::Remainder(Pair {
-        a: ra as i32,
-        b: rb as i32,
-    })
 }
 
 // The remainder of (a, b) modulo q = (c, d), and zero where `reduce_q` refuses.
 pub fn remainder_q(a: i64, b: i64, c: i32, d: i32) -> Pair
     ensures { λ r. ⌜ value (r .a) (r .b) ≡ written (reduceQ (value c d) (value a b)) 𝟘 ⌝ }
 {
-    match reduce_q(a, b, c, d) {
-        Reduced::Remainder(r) => r,
-        Reduced::Refused(_) => Pair { a: 0, b: 0 },
+    match reduction_refusal(a, b, c, d) {
+        Answer::Done => remainder_of(a, b, c, d),
+        Answer::Refused(_) => Pair { a: 0, b: 0 },
     }
 }
