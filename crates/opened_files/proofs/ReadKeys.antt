@@ -6,12 +6,14 @@ use Prim.Native.Nat.{ℕ, _+_, _*_, _≤_}
 use native.Mathlib.Omega.{arith}
 use lib.Dec.{T, eqb, eqb→eq, lit<}
 use lib.IntN.{ℤ}
-use lib.ListN.{length, take, drop, length-drop}
+use lib.ListN.{length, drop, length-drop}
 use lib.Seq.{length-take-le}
 use mir.Facts.{and-yes, yes-and, yes-eqb}
 use Rattle.integers.proofs.Tests.{equal-4}
-use Rattle.refusals.specs.Outcomes.{Check, Outcome, done, outcome, _if_}
-use Rattle.refusals.proofs.Checks.{passed-all, holds-passed, fails-refused, none-left, done-holds}
+use Rattle.refusals.specs.Outcomes.{Check, Outcome, done, outcome, number, _if_}
+use Rattle.refusals.specs.Numbers.{answered}
+use Rattle.refusals.specs.declared.Answer.{Answer}
+use Rattle.refusals.proofs.Checks.{positive, same-number, passed-all, holds-passed, fails-refused, none-left, done-holds}
 use Rattle.eisenstein.specs.Values.{ℤ[ω], same}
 use Rattle.eisenstein.proofs.Equality.{same-yes}
 use Rattle.parameters.specs.Sets.{ParameterSet, parameterChecks, sameSet}
@@ -26,14 +28,10 @@ use Rattle.files.specs.Files.{fileNumbers, arrayAt}
 use Rattle.files.specs.Calls.{setChecks}
 use Rattle.array_sets.proofs.ArrayChecks.{own}
 use Rattle.files.proofs.SetChecks.{first-array, next-array}
+use Rattle.stored_keys.specs.Keys.{storedKeyCheck}
 use Rattle.opened_files.specs.Pairs.{inverseChecks, pairChecks, messageOf}
 use Rattle.opened_files.specs.Steps.{KeyRead, after, openingArrays, openingWith}
-use Rattle.opened_files.proofs.Answers.{after-checks, after-done}
-
--- a part of the numbers that is array k
-pub part-is : (p : ParameterSet) (k : ℕ) (l : List ℤ) (n from : ℕ) → n ≡ 2 * p .N → from ≡ 2 * p .N * k → take n (drop from l) ≡ arrayAt p k l
-unfolding arrayAt
-part-is p k l n from e f = ap₂ (λ (x y : ℕ). take x (drop y l)) e f
+use Rattle.opened_files.proofs.Answers.{answer-by-number, after-checks, after-done}
 
 -- two sets that are the same have the same ring
 same-ring : (p p′ : ParameterSet) → T (sameSet p p′) → (p .N ≡ p′ .N) × (p .q ≡ p′ .q)
@@ -43,8 +41,12 @@ same-ring p p′ t =
     let q = and-yes (same (p .q) (p′ .q)) _ (n .1) in
     (eqb→eq (p .N) (p′ .N) (n .0), same-yes (p .q) (p′ .q) (q .0))
 
+inverses-positive : (p : ParameterSet) (l : List ℤ) → T (positive (inverseChecks p l))
+unfolding inverseChecks
+inverses-positive p l = tt
+
 module _ (p : ParameterSet) (numbers : List ℤ) (key : KeyRead p numbers) where
-  pub four-long : length numbers ≡ 2 * p .N * 4
+  four-long : length numbers ≡ 2 * p .N * 4
   unfolding fileNumbers arraysOf
   four-long = key .long
 
@@ -77,7 +79,7 @@ module _ (p : ParameterSet) (numbers : List ℤ) (key : KeyRead p numbers) where
   four-passed : outcome four (tt {0}) ≡ done (tt {0})
   four-passed = ap (λ (cs : List Check). outcome cs (tt {0})) (sym four-are) ∙ key .sets
 
-  pub key-checked : (room : ℕ) → room ≡ 2 * p .N → keyCheck p f F2 Fq g room ≡ outcome (inverseChecks p numbers) (array (p .N) (publicKey p (coefficient Fq) (coefficient g)))
+  key-checked : (room : ℕ) → room ≡ 2 * p .N → keyCheck p f F2 Fq g room ≡ outcome (inverseChecks p numbers) (array (p .N) (publicKey p (coefficient Fq) (coefficient g)))
   unfolding keyCheck keyChecks inverseChecks
   key-checked room e =
       let h = array (p .N) (publicKey p (coefficient Fq) (coefficient g)) in
@@ -85,6 +87,13 @@ module _ (p : ParameterSet) (numbers : List ℤ) (key : KeyRead p numbers) where
       ∙ holds-passed 7 (full (p .N) (length f) && (full (p .N) (length F2) && (full (p .N) (length Fq) && (full (p .N) (length g) && full (p .N) room)))) _ h
       (yes-and (full (p .N) (length f)) _ (yes-eqb (array-long 0 (omega arith))) (equal-4 (array-long 1 (omega arith)) (array-long 2 (omega arith)) (array-long 3 (omega arith)) e))
       ∙ passed-all four (inverseChecks p numbers) h four-passed
+
+  -- what the key check of the numbers answered
+  pub key-answered : (a : Answer) → number (answered a) ≡ number (storedKeyCheck p numbers) → answered a ≡ outcome (inverseChecks p numbers) (tt {0})
+  unfolding storedKeyCheck
+  key-answered a e =
+      let cs = inverseChecks p numbers in
+      answer-by-number a cs (inverses-positive p numbers) (e ∙ ap number (key-checked (2 * p .N) refl) ∙ same-number cs (array (p .N) (publicKey p (coefficient Fq) (coefficient g))) (tt {0}))
 
   pub opens : (e : List ℤ) → length e ≡ 2 * p .N → T (reducedQ (p .N) (p .q) (coefficient e)) → opening p f F2 e (messageBytes (p .N)) ≡ done (messageOf p numbers e)
   unfolding opening openingChecks messageOf

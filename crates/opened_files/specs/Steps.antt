@@ -8,7 +8,7 @@ use lib.ListN.{length, take, drop}
 use Rattle.refusals.specs.Outcomes.{Outcome, outcome, done, refused, Gives, Passes, _if_}
 use Rattle.parameters.specs.Sets.{ParameterSet, parameterChecks, sameSet}
 use Rattle.packing.specs.Messages.{messageBytes}
-use Rattle.etru.specs.Calls.{keyCheck, opening}
+use Rattle.etru.specs.Calls.{opening}
 use Rattle.heads.specs.Kinds.{arraysOf}
 use Rattle.heads.specs.Heads.{headOf}
 use Rattle.files.specs.Files.{fileNumbers, numbersOf, arrayAt}
@@ -24,10 +24,6 @@ pub record KeyRead (p : ParameterSet) (numbers : List ℤ) : Type 0 where
 -- Its numbers at the front of a longer array.
 abbrev pub keyIn : ParameterSet → List ℤ → List ℤ
 keyIn p l = take (fileNumbers 2 (p .N)) l
-
--- The key check with Fq and g one after another in an array.
-abbrev pub keyCheckIn : ParameterSet → (f F2 rest : List ℤ) → ℕ → Outcome (List ℤ)
-keyCheckIn p f F2 rest room = keyCheck p f F2 (arrayAt p 0 rest) (arrayAt p 1 rest) room
 
 -- The room that is lent: four arrays and a message, each at the largest N.
 abbrev pub Room : List ℤ → List ℕ → Type 0

@@ -4,7 +4,6 @@ ghost use mathlib.Core.Path.{_≡_};
 ghost use Prim.Native.Nat.{min};
 ghost use Rattle.opened_files.specs.Pairs.{openingFiles, openedIs};
 
-mod keys;
 mod messages;
 mod private_files;
 mod sealed_files;

@@ -9,11 +9,11 @@ ghost use Rattle.head_reading.specs.Calls.{readingHead};
 ghost use Rattle.opened_files.specs.Pairs.{inverseChecks, openedIs};
 ghost use Rattle.opened_files.specs.Steps.{KeyRead, keyIn, Room, SealedRead, openingSealed};
 use crate::Opened;
-use crate::keys::key_refusal;
 use crate::messages::open_pair;
 use parameters::Made;
 use parameters::Parameters;
 use refusals::Answer;
+use stored_keys::key_refusal;
 
 // The sealed array takes the place of Fq and g, which opening does not use. n is N of the key, m that of the sealed file.
 fn read_sealed(n: u32, m: u32, file: &[u8], numbers: &mut [i32]) -> Answer

@@ -12,7 +12,7 @@ use Rattle.parameters.proofs.AcceptedParameters.{accepted-parameters}
 use Rattle.packing.specs.Messages.{messageBytes}
 use Rattle.etru.specs.Calls.{opening}
 use Rattle.files.specs.Files.{arrayAt}
-use Rattle.opened_files.proofs.ReadKeys.{part-is}
+use Rattle.stored_keys.proofs.ArrayParts.{part-is}
 use Rattle.opened_files.proofs.messages.open_arrays.Statement.{statement}
 use Rattle.opened_files.proofs.messages.open_arrays.Tie as tie
 

@@ -13,6 +13,7 @@ use Rattle.files.proofs.Bounds.{numbers-few}
 use Rattle.opened_files.specs.Pairs.{fileChecks, inverseChecks}
 use Rattle.opened_files.specs.Steps.{KeyRead}
 use Rattle.opened_files.proofs.ReadFiles.{head-refused}
+use Rattle.opened_files.proofs.ReadKeys.{key-answered}
 use Rattle.opened_files.proofs.sealed_files.open_sealed.Statement.{statement}
 use Rattle.opened_files.proofs.sealed_files.open_sealed.Tie as tie
 
@@ -22,6 +23,12 @@ within c =
     let s = c .before .before .before in
     omega (arith, c .file-numbers .ensures, numbers-few 2 (s .args .p .n) (accepted-parameters (setOf (s .args .p)) (s .pre .0 .accepted) .N-small))
 
+-- the key's numbers, as the code lends them
+key-read : (c : tie.After-file-numbers) → let s = c .before .before .before in KeyRead (setOf (s .args .p)) (take (c .file-numbers .result) (s .args .numbers .now))
+key-read c =
+    let s = c .before .before .before in
+    subst (λ (k : ℕ). KeyRead (setOf (s .args .p)) (take k (s .args .numbers .now))) (sym (c .file-numbers .ensures)) (s .pre .0)
+
 pub open-sealed-spec : {M : Type 1} → statement M
 open-sealed-spec =
     tie.close
@@ -29,10 +36,7 @@ open-sealed-spec =
     (λ c κs. search needs)
     within
     (λ c. let s = c .before .before .before .before in sym (length-take-le _ (s .args .numbers .now) (within (c .before))))
-    (λ c κs.
-    let f = c .before in
-    let s = f .before .before .before in
-    subst (λ (k : ℕ). KeyRead (setOf (s .args .p)) (take k (s .args .numbers .now))) (sym (f .file-numbers .ensures)) (s .pre .0))
+    (λ c κs. search needs)
     (λ c κs. search needs)
     (λ c. search needs)
     (λ c κs.
@@ -42,7 +46,7 @@ open-sealed-spec =
     let s = f .before .before .before in (
       s .pre,
       (
-        k .key-refusal .ensures ∙ ap (λ (n : ℕ). outcome (inverseChecks (setOf (s .args .p)) (take n (s .args .numbers .now))) (tt {0})) (f .file-numbers .ensures),
+        key-answered (setOf (s .args .p)) (take (f .file-numbers .result) (s .args .numbers .now)) (key-read f) (k .key-refusal .result) (k .key-refusal .ensures) ∙ ap (λ (n : ℕ). outcome (inverseChecks (setOf (s .args .p)) (take n (s .args .numbers .now))) (tt {0})) (f .file-numbers .ensures),
         sym (h .read-head .ensures) ∙ ap made (c .before .before .before .sealed .given .1),
       ),
     ))

@@ -23,7 +23,8 @@ use Rattle.opened_files.specs.Steps.{openingSealed, keyIn}
 use Rattle.opened_files.proofs.JoinedArrays.{last-check}
 use Rattle.opened_files.proofs.KeptArrays.{array-kept}
 use Rattle.opened_files.proofs.ReadFiles.{Read, N-small, file-read, file-refused}
-use Rattle.opened_files.proofs.ReadKeys.{part-is, pair-is}
+use Rattle.stored_keys.proofs.ArrayParts.{part-is}
+use Rattle.opened_files.proofs.ReadKeys.{pair-is}
 use Rattle.opened_files.proofs.sealed_files.open_sealed_in.Statement.{statement}
 use Rattle.opened_files.proofs.sealed_files.open_sealed_in.Tie as tie
 

@@ -11,9 +11,9 @@ use Rattle.refusals.specs.Outcomes.{number}
 use Rattle.parameters.specs.Sets.{ParameterSet, setOf}
 use Rattle.etru.specs.Calls.{keyCheck}
 use Rattle.files.specs.Files.{arrayAt}
-use Rattle.opened_files.proofs.ReadKeys.{part-is}
-use Rattle.opened_files.proofs.keys.check_parts.Statement.{statement}
-use Rattle.opened_files.proofs.keys.check_parts.Tie as tie
+use Rattle.stored_keys.proofs.ArrayParts.{part-is}
+use Rattle.stored_keys.proofs.check_parts.Statement.{statement}
+use Rattle.stored_keys.proofs.check_parts.Tie as tie
 
 abbrev P : tie.Start → ParameterSet
 P s = setOf (s .args .p)

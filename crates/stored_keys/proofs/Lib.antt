@@ -1,0 +1,2 @@
+pub mod ArrayParts
+mod EarlyRefusals
