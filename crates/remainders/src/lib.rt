@@ -110,7 +110,7 @@ fn remainder(a: i64, b: i64, c: i64, d: i64) -> Wide
     best_corner(u, v, c, d)
 }
 
-// The same in 32 bits, where nothing is refused. The wide parts are cast here one by one: a pair that a function returns is read back whole, which a processor has to wait for.
+// The same in 32 bits, where nothing is refused.
 fn remainder_of(a: i64, b: i64, c: i32, d: i32) -> Pair
     requires { ⌜ Passes (reductionChecks (value c d) (value a b)) ⌝ }
     ensures { λ r. ⌜ value (r .a) (r .b) ≡ modQ (value c d) (value a b) ⌝ }
