@@ -10,9 +10,9 @@ use Rattle.eisenstein.specs.Reduction.{modQ}
 use Rattle.parameters.specs.Sets.{ParameterSet}
 use Rattle.parameters.proofs.AcceptedParameters.{Accepted, modulus-nonzero}
 use Rattle.polynomials.specs.Polynomials.{coefficient, array, convolution}
-use Rattle.unit_products.specs.Products.{Forms, multipliable}
+use Rattle.unit_operands.specs.Operands.{Forms, multipliable}
 use Rattle.products.specs.Products.{usable}
-use Rattle.unit_products.proofs.Operands.{multipliable-holds, was-formed}
+use Rattle.unit_operands.proofs.Operands.{multipliable-holds, was-formed}
 use Rattle.products.proofs.Operands.{usable-holds}
 use Rattle.etru.proofs.Passed.{Ready, Units}
 

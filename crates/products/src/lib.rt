@@ -6,7 +6,7 @@ ghost use lib.ListN.{length};
 ghost use Rattle.eisenstein.specs.Values.{value};
 ghost use Rattle.eisenstein.specs.Reduction.{modQ, mod2};
 ghost use Rattle.polynomials.specs.Polynomials.{coefficient, array, convolution};
-ghost use Rattle.unit_products.specs.Products.{Forms, multipliable};
+ghost use Rattle.unit_operands.specs.Operands.{Forms, multipliable};
 ghost use Rattle.products.specs.Products.{usable};
 
 mod checks;

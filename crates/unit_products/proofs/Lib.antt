@@ -1,4 +1,3 @@
-pub mod Operands
 mod PlacesOf
 mod RotatedSums
 mod Horner

@@ -1,2 +1,1 @@
 pub mod Rotations
-pub mod Products

@@ -8,7 +8,7 @@ ghost use lib.ListN.{length, getD, set};
 ghost use Rattle.eisenstein.specs.Values.{value, _*ω_};
 ghost use Rattle.polynomials.specs.Polynomials.{coefficient, array, sum, convolution, zerosAndUnits};
 ghost use Rattle.arrays.specs.Arrays.{AllWithin, Small};
-ghost use Rattle.unit_products.specs.Products.{Operands};
+ghost use Rattle.unit_operands.specs.Operands.{Operands};
 ghost use Rattle.unit_products.specs.Rotations.{ζ, PartsBelow, Zeros, Twice, run, runs, sixAt, Fits, SixFit, Filled, Added, Summed, Rotated, Summands};
 use crate::places::places_of;
 

@@ -10,8 +10,8 @@ use lib.ListN.{length}
 use Rattle.eisenstein.specs.Reduction.{mod2}
 use Rattle.polynomials.specs.Polynomials.{Polynomial, coefficient, array, convolution}
 use Rattle.polynomials.proofs.Arrays.{array-length, array-same, coefficient-array}
-use Rattle.unit_products.specs.Products.{multipliable}
-use Rattle.unit_products.proofs.Operands.{operands-of, was-formed, was-not-formed, formed, not-formed}
+use Rattle.unit_operands.specs.Operands.{multipliable}
+use Rattle.unit_operands.proofs.Operands.{operands-of, was-formed, was-not-formed, formed, not-formed}
 use Rattle.products.proofs.multiply_units_modulo_2.Statement.{statement}
 use Rattle.products.proofs.multiply_units_modulo_2.Tie as tie
 

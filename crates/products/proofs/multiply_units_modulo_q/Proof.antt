@@ -12,8 +12,8 @@ use Rattle.eisenstein.specs.Reduction.{modQ}
 use Rattle.eisenstein.proofs.Pairs.{pair-read}
 use Rattle.polynomials.specs.Polynomials.{Polynomial, coefficient, array, convolution}
 use Rattle.polynomials.proofs.Arrays.{array-length, array-same, coefficient-array}
-use Rattle.unit_products.specs.Products.{multipliable}
-use Rattle.unit_products.proofs.Operands.{operands-of, was-formed, was-not-formed, formed, not-formed}
+use Rattle.unit_operands.specs.Operands.{multipliable}
+use Rattle.unit_operands.proofs.Operands.{operands-of, was-formed, was-not-formed, formed, not-formed}
 use Rattle.products.specs.Products.{usable}
 use Rattle.arrays.proofs.Sizes.{modulus-handed}
 use Rattle.products.proofs.Operands.{modulus-of}

@@ -7,8 +7,8 @@ use borrow.Author.Tests.{not-true, not-false}
 use lib.IntN.{ℤ}
 use lib.ListN.{length}
 use Rattle.polynomials.specs.Polynomials.{coefficient, array, convolution}
-use Rattle.unit_products.specs.Products.{multipliable}
-use Rattle.unit_products.proofs.Operands.{operands-of, formed, not-formed}
+use Rattle.unit_operands.specs.Operands.{multipliable}
+use Rattle.unit_operands.proofs.Operands.{operands-of, formed, not-formed}
 use Rattle.unit_products.proofs.multiply_units.Statement.{statement}
 use Rattle.unit_products.proofs.multiply_units.Tie as tie
 

@@ -12,7 +12,7 @@ use Rattle.eisenstein.proofs.Equality.{is-true}
 use Rattle.polynomials.specs.Polynomials.{coefficient, zerosAndUnits}
 use Rattle.arrays.specs.Arrays.{full, unitsArray, Small, allSmall}
 use Rattle.arrays.proofs.Sizes.{all-within, are-within}
-use Rattle.unit_products.specs.Products.{Forms, multipliable, Operands}
+use Rattle.unit_operands.specs.Operands.{Forms, multipliable, Operands}
 
 -- ---- the operands
 

@@ -5,9 +5,9 @@ use borrow.Author.Needs.{needs}
 use borrow.Author.Tests.{eq-eqb, ne-eqb, not-true, not-false}
 use lib.ListN.{length}
 use Rattle.arrays.specs.Arrays.{full, unitsArray, allSmall}
-use Rattle.unit_products.specs.Products.{multipliable}
-use Rattle.unit_products.proofs.checks.multipliable.Statement.{statement}
-use Rattle.unit_products.proofs.checks.multipliable.Tie as tie
+use Rattle.unit_operands.specs.Operands.{multipliable}
+use Rattle.unit_operands.proofs.multipliable.Statement.{statement}
+use Rattle.unit_operands.proofs.multipliable.Tie as tie
 
 -- the whole test, after the tests that were made
 together : (s : tie.Start) {a b c : Bool} → unitsArray (s .args .n) (s .args .x .now) ≡ a → full (s .args .n) (length (s .args .y .now)) ≡ b → full (s .args .n) (s .args .room) ≡ c → (a && (b && (c && allSmall (s .args .y .now)))) ≡ multipliable (s .args .n) (s .args .x .now) (s .args .y .now) (s .args .room)

@@ -1,8 +1,10 @@
-// What is asked of the operands before they are multiplied.
+// What the product with an array of zeros and units asks of its operands.
+// It forms no product.
 ghost use mathlib.Core.Path.{_≡_};
-ghost use Rattle.unit_products.specs.Products.{multipliable};
+ghost use Rattle.unit_operands.specs.Operands.{multipliable};
 
-pub(crate) fn multipliable(n: u32, x: &[i32], y: &[i32], room: usize) -> bool
+// Whether x is of zeros and units, y as long with small numbers, and an output of so many numbers has room for the product.
+pub fn multipliable(n: u32, x: &[i32], y: &[i32], room: usize) -> bool
     ensures { λ r. ⌜ r ≡ multipliable n (now (x .entry)) (now (y .entry)) room ⌝ }
 {
     if !array_limits::zeros_and_units(x, n) {
