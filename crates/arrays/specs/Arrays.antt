@@ -1,4 +1,5 @@
 -- Arrays (document 01, 'Where each number is checked'): their length, and the size of their numbers.
+use mathlib.Core.Path.{_≡_}
 use mathlib.Core.Bool.{Bool, not, _&&_}
 use mathlib.Core.List.{List}
 use Prim.Native.Nat.{ℕ, _*_, _≤_}
@@ -28,3 +29,7 @@ allSmall = allWithin 5461
 -- An array of N coefficients, N at most 1,024, that are zeros and units alone.
 unfoldable pub unitsArray : ℕ → List ℤ → Bool
 unitsArray N x = leb N 1024 && (full N (length x) && zerosAndUnits N (coefficient x))
+
+-- Each number zero.
+abbrev pub Zeros : List ℤ → Type 0
+Zeros l = (k : ℕ) → getD l k (pos 0) ≡ pos 0

@@ -1,14 +1,14 @@
 // Arrays of 2N numbers: reading a number, comparing a coefficient, lengths, and zeros to begin with.
-// It asks nothing of an array's numbers, forms no sum or product of arrays, and changes none.
+// It asks nothing of an array's numbers, and forms no sum or product of arrays.
 // No function relies on a length or on N: a number past the end is read as 0.
 ghost use mathlib.Core.Path.{_≡_};
 ghost use mathlib.Core.Bool.{_&&_};
 ghost use Prim.Native.Nat.{_^_, _<_, _≤_};
 ghost use lib.IntN.{pos, natAbs};
-ghost use lib.ListN.{getD, replicate};
+ghost use lib.ListN.{length, getD, replicate};
 ghost use Rattle.eisenstein.specs.Values.{value, same};
 ghost use Rattle.polynomials.specs.Polynomials.{coefficient};
-ghost use Rattle.arrays.specs.Arrays.{full};
+ghost use Rattle.arrays.specs.Arrays.{full, Zeros};
 
 // Zeros, with room for an array at the largest N: 8 KiB of the caller's stack.
 pub fn zeros() -> [i32; 2048]
@@ -71,4 +71,15 @@ pub fn three_full(n: u32, x: usize, y: usize, z: usize) -> bool
         }
     }
     false
+}
+
+// Makes each number zero.
+pub fn clear(out: &mut [i32])
+    ensures { λ _. ⌜ (length (now (out .exit)) ≡ length (now (out .entry))) × Zeros (now (out .exit)) ⌝ }
+{
+    let mut k = 0;
+    while k < out.len() {
+        out[k] = 0;
+        k += 1;
+    }
 }

@@ -20,8 +20,8 @@ use Rattle.polynomials.proofs.Arrays.{array-length, coefficient-array, array-by
 use Rattle.polynomials.proofs.Eisenstein.{sum-same}
 use Rattle.polynomials.proofs.Members.{all-at}
 use Rattle.arrays.proofs.Sizes.{from-parts}
-use Rattle.arrays.specs.Arrays.{AllWithin}
-use Rattle.unit_products.specs.Rotations.{ζ, run, runs, is, PartsBelow, Zeros, Summed}
+use Rattle.arrays.specs.Arrays.{AllWithin, Zeros}
+use Rattle.unit_products.specs.Rotations.{ζ, run, runs, is, PartsBelow, Summed}
 
 -- ---- times ζ
 

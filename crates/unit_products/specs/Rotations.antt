@@ -17,10 +17,6 @@ abbrev pub ζ : ℤ[ω]
 abbrev pub PartsBelow : ℕ → ℤ[ω] → Type 0
 PartsBelow b x = (natAbs (x .a) ≤ b) × (natAbs (x .b) ≤ b)
 
--- each number zero
-abbrev pub Zeros : List ℤ → Type 0
-Zeros l = (k : ℕ) → getD l k (pos 0) ≡ pos 0
-
 -- `twice` is y, and y again after it
 pub record Twice (y twice : List ℤ) : Type 0 where
   pub long : length twice ≡ 2 * length y

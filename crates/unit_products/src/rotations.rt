@@ -7,9 +7,9 @@ ghost use lib.IntN.{pos, natAbs};
 ghost use lib.ListN.{length, getD, set};
 ghost use Rattle.eisenstein.specs.Values.{value, _*ω_};
 ghost use Rattle.polynomials.specs.Polynomials.{coefficient, array, sum, convolution, zerosAndUnits};
-ghost use Rattle.arrays.specs.Arrays.{AllWithin, Small};
+ghost use Rattle.arrays.specs.Arrays.{AllWithin, Small, Zeros};
 ghost use Rattle.unit_operands.specs.Operands.{Operands};
-ghost use Rattle.unit_products.specs.Rotations.{ζ, PartsBelow, Zeros, Twice, run, runs, sixAt, Fits, SixFit, Filled, Added, Summed, Rotated, Summands};
+ghost use Rattle.unit_products.specs.Rotations.{ζ, PartsBelow, Twice, run, runs, sixAt, Fits, SixFit, Filled, Added, Summed, Rotated, Summands};
 use crate::places::places_of;
 
 // Lays y out twice, once after the other, so that each rotation of it is one run of numbers.
@@ -254,16 +254,6 @@ fn add_units(
     }
 }
 
-fn clear(out: &mut [i32])
-    ensures { λ _. ⌜ (length (now (out .exit)) ≡ length (now (out .entry))) × Zeros (now (out .exit)) ⌝ }
-{
-    let mut k = 0;
-    while k < out.len() {
-        out[k] = 0;
-        k += 1;
-    }
-}
-
 // x × y, to out, with room for y twice, for the places and for a block of sums.
 fn multiply_with(
     x: &[i32],
@@ -278,7 +268,7 @@ fn multiply_with(
     ensures { λ _. ⌜ now (out .exit) ≡ array n (convolution n (coefficient (now (x .entry))) (coefficient (now (y .entry)))) ⌝ }
 {
     lay_out_twice(y, twice);
-    clear(out);
+    arrays::clear(out);
     add_units(x, n, twice, places, block, out);
 }
 

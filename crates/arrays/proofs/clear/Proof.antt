@@ -6,9 +6,9 @@ use native.Mathlib.Omega.{arith}
 use native.Mathlib.Decide.{decLe}
 use lib.IntN.{ℤ, pos}
 use lib.ListN.{length, getD, List·getD-eq-default}
 use Rattle.arrays.proofs.Changing.{Changed, changed-none, set-next}
-use Rattle.unit_products.proofs.rotations.clear.Statement.{statement}
-use Rattle.unit_products.proofs.rotations.clear.Tie as tie
+use Rattle.arrays.proofs.clear.Statement.{statement}
+use Rattle.arrays.proofs.clear.Tie as tie
 
 abbrev Inv-loop : tie.InvT-loop
 Inv-loop out₀ k₀ out k = (k ≤ length out₀) × Changed (λ m i. getD m i (pos 0)) (λ i. pos 0) out₀ out k
