@@ -1,13 +1,18 @@
--- Answers as outcomes: by their numbers, and one after another.
-use mathlib.Core.Path.{_≡_, refl, sym}
+-- Answers as outcomes: by their numbers, one after another, and with a message.
+use mathlib.Core.Path.{_≡_, refl, sym, _∙_, ap}
 use mathlib.Core.List.{List, _++_}
+use Prim.Native.Nat.{ℕ}
 use lib.Dec.{T}
 use Rattle.refusals.specs.Outcomes.{Check, Outcome, done, refused, outcome, number}
 use Rattle.refusals.specs.Numbers.{numberOf, answered}
 use Rattle.refusals.specs.declared.Answer.{Answer}
 use Rattle.refusals.specs.declared.Answer.the-variants.{Done, Refused}
+use Rattle.refusals.specs.declared.Refusal.{Refusal}
 use Rattle.refusals.proofs.Checks.{positive, passed-all, refused-first, done-with, refused-with, done-by-number, refused-by-number}
 use Rattle.refusals.proofs.Numbers.{number-positive}
+use Rattle.opened_files.specs.declared.Opened.{Opened}
+use Rattle.opened_files.specs.declared.Opened.the-variants as opened
+use Rattle.opened_files.specs.Pairs.{lengthOf, over, GivesMessage}
 use Rattle.opened_files.specs.Steps.{after}
 
 pub answer-by-number : (a : Answer) (cs : List Check) → T (positive cs) → number (answered a) ≡ number (outcome cs (tt {0})) → answered a ≡ outcome cs (tt {0})
@@ -28,3 +33,15 @@ module _ {A : Type 0} (cs : List Check) where
       go : (o : Outcome (Unit {0})) → outcome cs (tt {0}) ≡ o → after o (done a) ≡ outcome cs a
       go (done _) e = sym (done-with cs a e)
       go (refused n) e = sym (refused-with cs a n e)
+
+-- ---- what a call gives that opens to a message
+
+-- by an outcome that is equal to its own
+pub gives-as : {o o′ : Outcome (List ℕ)} {r : Opened} {old new : List ℕ} → o ≡ o′ → GivesMessage o r old new → GivesMessage o′ r old new
+gives-as {old = old} e g = record {
+  answer = g .answer ∙ ap lengthOf e;
+  left = g .left ∙ ap (λ (x : Outcome (List ℕ)). over x old) e;
+}
+
+pub gives-refusal : {o : Outcome (List ℕ)} {r : Refusal} {old : List ℕ} → refused (numberOf r) ≡ o → GivesMessage o (opened.Refused r) old old
+gives-refusal e = gives-as e (record { answer = refl; left = refl })

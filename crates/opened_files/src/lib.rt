@@ -2,7 +2,7 @@
 // It writes no line, and reads no file of the system. Any input has its outcome.
 ghost use mathlib.Core.Path.{_≡_};
 ghost use Prim.Native.Nat.{min};
-ghost use Rattle.opened_files.specs.Pairs.{openingFiles, openedIs};
+ghost use Rattle.opened_files.specs.Pairs.{openingFiles, GivesMessage};
 
 mod messages;
 mod private_files;
@@ -26,9 +26,9 @@ pub fn least(x: usize, y: usize) -> usize
     y
 }
 
-// The message goes to the front of the lent bytes, which have room for the longest one. Nothing is promised of the bytes behind it, nor of any after a refusal.
+// The message goes to the front of the lent bytes, which have room for the longest one. The bytes behind it, and all of them after a refusal, are as they came.
 pub fn open_input(input: &[u8], message: &mut [u8; 256]) -> Opened
-    ensures { λ r. ⌜ openedIs r (now (message .exit)) ≡ openingFiles (now (input .entry)) ⌝ }
+    ensures { λ r. ⌜ GivesMessage (openingFiles (now (input .entry))) r (now (message .entry)) (now (message .exit)) ⌝ }
 {
     match head_reading::read_head(heads::kinds::PRIVATE, input) {
         Made::Accepted(p) => private_files::open_private(p, input, message),

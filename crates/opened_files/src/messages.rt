@@ -6,7 +6,7 @@ ghost use Rattle.refusals.specs.Numbers.{answered};
 ghost use Rattle.parameters.specs.Sets.{setOf, parameterChecks};
 ghost use Rattle.packing.specs.Messages.{messageBytes};
 ghost use Rattle.etru.specs.Calls.{opening};
-ghost use Rattle.opened_files.specs.Pairs.{openedIs};
+ghost use Rattle.opened_files.specs.Pairs.{GivesMessage};
 ghost use Rattle.opened_files.specs.Steps.{Room, openingArrays, openingWith};
 use crate::Opened;
 use parameters::Parameters;
@@ -17,7 +17,7 @@ use refusals::Refusal;
 // The message goes to the front of a lent one.
 fn open_message(p: Parameters, f: &[i32], f2: &[i32], e: &[i32], message: &mut [u8]) -> Opened
     requires { ⌜ Passes (parameterChecks (setOf p)) × (length (now message) ≡ 256) ⌝ }
-    ensures { λ r. ⌜ openedIs r (now (message .exit)) ≡ opening (setOf p) (now (f .entry)) (now (f2 .entry)) (now (e .entry)) (messageBytes (p .n)) ⌝ }
+    ensures { λ r. ⌜ GivesMessage (opening (setOf p) (now (f .entry)) (now (f2 .entry)) (now (e .entry)) (messageBytes (p .n))) r (now (message .entry)) (now (message .exit)) ⌝ }
 {
     let n = p.n;
     let k = packing::message_bytes(n);
@@ -30,7 +30,7 @@ fn open_message(p: Parameters, f: &[i32], f2: &[i32], e: &[i32], message: &mut [
 // The arrays are one after another.
 fn open_arrays(p: Parameters, numbers: &[i32], message: &mut [u8]) -> Opened
     requires { ⌜ Passes (parameterChecks (setOf p)) × Room (now numbers) (now message) ⌝ }
-    ensures { λ r. ⌜ openedIs r (now (message .exit)) ≡ openingArrays (setOf p) (now (numbers .entry)) ⌝ }
+    ensures { λ r. ⌜ GivesMessage (openingArrays (setOf p) (now (numbers .entry))) r (now (message .entry)) (now (message .exit)) ⌝ }
 {
     let n = p.n;
     let f_end = 2 * (n as usize);
@@ -51,7 +51,7 @@ pub(crate) fn open_pair(
     message: &mut [u8],
 ) -> Opened
     requires { ⌜ Passes (parameterChecks (setOf p)) × Room (now numbers) (now message) ⌝ }
-    ensures { λ r. ⌜ openedIs r (now (message .exit)) ≡ openingWith (setOf p) (setOf sealed) (answered key) (now (numbers .entry)) ⌝ }
+    ensures { λ r. ⌜ GivesMessage (openingWith (setOf p) (setOf sealed) (answered key) (now (numbers .entry))) r (now (message .entry)) (now (message .exit)) ⌝ }
 {
     if !same_parameters(p, sealed) {
         return Opened::Refused(Refusal::ParametersDiffer);

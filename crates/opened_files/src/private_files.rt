@@ -6,7 +6,7 @@ ghost use Rattle.refusals.specs.Outcomes.{done};
 ghost use Rattle.parameters.specs.Sets.{setOf};
 ghost use Rattle.files.specs.Files.{fileBytes};
 ghost use Rattle.head_reading.specs.Calls.{readingHead};
-ghost use Rattle.opened_files.specs.Pairs.{openingPair, openingFiles, openedIs};
+ghost use Rattle.opened_files.specs.Pairs.{openingPair, openingFiles, GivesMessage};
 ghost use Rattle.opened_files.specs.Steps.{Room};
 use crate::Opened;
 use crate::least;
@@ -23,7 +23,7 @@ fn open_private_in(
     message: &mut [u8],
 ) -> Opened
     requires { ⌜ (readingHead 2 (now first) ≡ done (setOf p)) × Room (now numbers) (now message) ⌝ }
-    ensures { λ r. ⌜ openedIs r (now (message .exit)) ≡ openingPair (now (first .entry)) (now (second .entry)) ⌝ }
+    ensures { λ r. ⌜ GivesMessage (openingPair (now (first .entry)) (now (second .entry))) r (now (message .entry)) (now (message .exit)) ⌝ }
 {
     let n = p.n;
     let k = files::file_numbers(heads::kinds::PRIVATE, n);
@@ -42,7 +42,7 @@ fn first_end(n: u32, all: usize) -> usize
 
 pub(crate) fn open_private(p: Parameters, input: &[u8], message: &mut [u8]) -> Opened
     requires { ⌜ (readingHead 2 (now input) ≡ done (setOf p)) × (length (now message) ≡ 256) ⌝ }
-    ensures { λ r. ⌜ openedIs r (now (message .exit)) ≡ openingFiles (now (input .entry)) ⌝ }
+    ensures { λ r. ⌜ GivesMessage (openingFiles (now (input .entry))) r (now (message .entry)) (now (message .exit)) ⌝ }
 {
     let n = p.n;
     let end = first_end(n, input.len());

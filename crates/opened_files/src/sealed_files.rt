@@ -6,7 +6,7 @@ ghost use Rattle.refusals.specs.Outcomes.{done, outcome, number};
 ghost use Rattle.refusals.specs.Numbers.{answered};
 ghost use Rattle.parameters.specs.Sets.{setOf};
 ghost use Rattle.head_reading.specs.Calls.{readingHead};
-ghost use Rattle.opened_files.specs.Pairs.{inverseChecks, openedIs};
+ghost use Rattle.opened_files.specs.Pairs.{inverseChecks, GivesMessage};
 ghost use Rattle.opened_files.specs.Steps.{KeyRead, keyIn, Room, SealedRead, openingSealed};
 use crate::Opened;
 use crate::messages::open_pair;
@@ -36,7 +36,7 @@ fn open_sealed_in(
     requires { ⌜ KeyRead (setOf p) (keyIn (setOf p) (now numbers)) × Room (now numbers) (now message) ⌝ }
     requires { ⌜ answered key ≡ outcome (inverseChecks (setOf p) (keyIn (setOf p) (now numbers))) tt ⌝ }
     requires { ⌜ readingHead 3 (now file) ≡ done (setOf sealed) ⌝ }
-    ensures { λ r. ⌜ openedIs r (now (message .exit)) ≡ openingSealed (setOf p) (keyIn (setOf p) (now (numbers .entry))) (now (file .entry)) ⌝ }
+    ensures { λ r. ⌜ GivesMessage (openingSealed (setOf p) (keyIn (setOf p) (now (numbers .entry))) (now (file .entry))) r (now (message .entry)) (now (message .exit)) ⌝ }
 {
     let n = p.n;
     let m = sealed.n;
@@ -54,7 +54,7 @@ pub(crate) fn open_sealed(
     message: &mut [u8],
 ) -> Opened
     requires { ⌜ KeyRead (setOf p) (keyIn (setOf p) (now numbers)) × Room (now numbers) (now message) ⌝ }
-    ensures { λ r. ⌜ openedIs r (now (message .exit)) ≡ openingSealed (setOf p) (keyIn (setOf p) (now (numbers .entry))) (now (file .entry)) ⌝ }
+    ensures { λ r. ⌜ GivesMessage (openingSealed (setOf p) (keyIn (setOf p) (now (numbers .entry))) (now (file .entry))) r (now (message .entry)) (now (message .exit)) ⌝ }
 {
     let n = p.n;
     let k = files::file_numbers(heads::kinds::PRIVATE, n);

@@ -3,9 +3,12 @@ use mathlib.Core.Bool.{not}
 use mathlib.Core.List.{List, [], _∷_, _++_}
 use Prim.Native.Nat.{ℕ}
 use lib.Dec.{eqb}
-use lib.ListN.{length, drop}
-use Rattle.refusals.specs.Outcomes.{Check, Outcome, outcome, _if_}
+use lib.ListN.{length, take, drop}
+use Rattle.refusals.specs.Outcomes.{Check, Outcome, done, refused, outcome, _if_}
+use Rattle.refusals.specs.Numbers.{numberOf}
 use Rattle.opened_files.specs.Pairs.{openingFiles}
+use Rattle.opened_files.specs.declared.Opened.{Opened}
+use Rattle.opened_files.specs.declared.Opened.the-variants.{Message, Refused}
 use Rattle.lines.specs.Lines.{lineOf}
 
 -- The line that is printed.
@@ -21,3 +24,8 @@ lineWriting input old = outcome (lineChecks (length old)) (openingLine input ++ 
 
 unfoldable pub lineLength : List ℕ → ℕ → Outcome ℕ
 lineLength input room = outcome (lineChecks room) (length (openingLine input))
+
+-- What was opened, with the message at the front of `message`.
+abbrev pub openedIs : Opened → List ℕ → Outcome (List ℕ)
+openedIs (Message n) message = done (take n message)
+openedIs (Refused r) message = refused (numberOf r)

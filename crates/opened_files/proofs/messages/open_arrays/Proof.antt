@@ -1,5 +1,5 @@
 -- `open_arrays` meets its contract.
-use mathlib.Core.Path.{_≡_, refl, sym, _∙_}
+use mathlib.Core.Path.{_≡_, refl, sym}
 use mathlib.Core.List.{List}
 use Prim.Native.Nat.{ℕ, _-_, _*_, _≤_}
 use native.Mathlib.Omega.{arith}
@@ -13,6 +13,7 @@ use Rattle.packing.specs.Messages.{messageBytes}
 use Rattle.etru.specs.Calls.{opening}
 use Rattle.files.specs.Files.{arrayAt}
 use Rattle.stored_keys.proofs.ArrayParts.{part-is}
+use Rattle.opened_files.proofs.Answers.{gives-as}
 use Rattle.opened_files.proofs.messages.open_arrays.Statement.{statement}
 use Rattle.opened_files.proofs.messages.open_arrays.Tie as tie
 
@@ -60,4 +61,4 @@ open-arrays-spec =
     (λ c.
     let o = c .before .before in
     let s = o .before .before .before .before .before .before in
-    o .open-message .ensures ∙ (λ i. opening (P s) (f-is s i) (F2-is s i) (e-is s i) (messageBytes (s .args .p .n)))))
+    gives-as (λ i. opening (P s) (f-is s i) (F2-is s i) (e-is s i) (messageBytes (s .args .p .n))) (o .open-message .ensures)))

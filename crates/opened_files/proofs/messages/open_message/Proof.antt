@@ -1,12 +1,12 @@
 -- `open_message` meets its contract.
-use mathlib.Core.Path.{_≡_, sym, _∙_, ap}
+use mathlib.Core.Path.{_≡_, refl, sym, _∙_, ap, subst}
 use mathlib.Core.List.{List, _++_}
 use Prim.Native.Nat.{ℕ, _≤_}
 use native.Mathlib.Omega.{arith}
 use borrow.Author.Needs.{needs}
 use lib.IntN.{ℤ}
-use lib.ListN.{length, take, drop}
-use lib.Seq.{length-take-le, take-at}
+use lib.ListN.{length, take, drop, take-append-drop}
+use lib.Seq.{length-take-le}
 use Rattle.refusals.specs.Outcomes.{Outcome, done, number, written}
 use Rattle.refusals.specs.Numbers.{numberOf, answered}
 use Rattle.refusals.specs.declared.Answer.{Answer}
@@ -19,6 +19,7 @@ use Rattle.packing.proofs.RoundTrips.{unpacked-length}
 use Rattle.etru.specs.Scheme.{opened}
 use Rattle.etru.specs.Calls.{openingChecks, opening}
 use Rattle.parameters.proofs.AcceptedParameters.{accepted-parameters}
+use Rattle.opened_files.proofs.Answers.{gives-as}
 use Rattle.opened_files.proofs.messages.open_message.Statement.{statement}
 use Rattle.opened_files.proofs.messages.open_message.Tie as tie
 
@@ -43,8 +44,18 @@ part c =
 abbrev outcome-of : tie.Start → ℕ → Outcome (List ℕ)
 outcome-of s k = opening (setOf (s .args .p)) (s .args .f .now) (s .args .f2 .now) (s .args .e .now) k
 
+-- what the call answered, and what it left in the lent part
 number-is : (c : tie.After-open) → let s = c .before .before .before .before in number (answered (c .«open» .result)) ≡ number (outcome-of s (messageBytes (s .args .p .n)))
 number-is c = c .«open» .ensures .0 ∙ ap (λ (k : ℕ). number (outcome-of (c .before .before .before .before) k)) (part (c .before .before) .1)
+
+abbrev new : tie.After-open → List ℕ
+new c = c .«open» .last .1 .1 .1 .1 .0
+
+new-is : (c : tie.After-open) → let m = c .before .before in let s = m .before .before in new c ≡ written (outcome-of s (messageBytes (s .args .p .n))) (take (m .message-bytes .result) (s .args .message .now))
+new-is c =
+    let m = c .before .before in
+    let s = m .before .before in
+    subst (λ (k : ℕ). new c ≡ written (outcome-of s k) (take (m .message-bytes .result) (s .args .message .now))) (part m .1) (c .«open» .ensures .1)
 
 pub open-message-spec : {M : Type 1} → statement M
 open-message-spec =
@@ -62,12 +73,18 @@ open-message-spec =
     let m = r .before .before in
     let s = m .before .before in
     let k = m .message-bytes .result in
-    let old = take k (s .args .message .now) in
-    let new = r .«open» .last .1 .1 .1 .1 .0 in
-    let o = opening-done (setOf (s .args .p)) (s .args .f .now) (s .args .f2 .now) (s .args .e .now) (messageBytes (s .args .p .n)) old new (sym (number-is r) ∙ ap (λ (a : Answer). number (answered a)) (c .enum-told .given .1)) (r .«open» .ensures .1 ∙ ap (λ (n : ℕ). written (outcome-of s n) old) (part m .1)) in
-    ap done (take-at new (drop k (s .args .message .now)) k (o .1 ∙ sym (m .message-bytes .ensures))) ∙ sym (o .0))
+    let old = s .args .message .now in
+    let o = opening-done (setOf (s .args .p)) (s .args .f .now) (s .args .f2 .now) (s .args .e .now) (messageBytes (s .args .p .n)) (take k old) (new r) (sym (number-is r) ∙ ap (λ (a : Answer). number (answered a)) (c .enum-told .given .1)) (new-is r) in
+    let long : k ≡ length (new r) = m .message-bytes .ensures ∙ sym (o .1) in
+    gives-as (sym (o .0)) (record { answer = ap done long; left = ap (λ (j : ℕ). new r ++ drop j old) long }))
     (λ c. search needs)
     (λ c.
     let r = c .before .before .before .before .before in
+    let m = r .before .before in
+    let s = m .before .before in
+    let k = m .message-bytes .result in
+    let old = s .args .message .now in
     let n = c .before .refusal .given .0 .0 in
-    sym (refused-by-number (outcome-of (r .before .before .before .before) _) (numberOf n) (number-positive n) (sym (number-is r) ∙ ap (λ (a : Answer). number (answered a)) (c .before .refusal .given .1)))))
+    let o = refused-by-number (outcome-of s (messageBytes (s .args .p .n))) (numberOf n) (number-positive n) (sym (number-is r) ∙ ap (λ (a : Answer). number (answered a)) (c .before .refusal .given .1)) in
+    let same : new r ≡ take k old = new-is r ∙ ap (λ (x : Outcome (List ℕ)). written x (take k old)) o in
+    gives-as (sym o) (record { answer = refl; left = ap (λ (l : List ℕ). l ++ drop k old) same ∙ take-append-drop k old })))

@@ -10,6 +10,7 @@ use Rattle.refusals.specs.declared.Answer.{Answer}
 use Rattle.refusals.proofs.Checks.{call-passed, call-refused, none-left}
 use Rattle.parameters.specs.Sets.{setOf, sameSet}
 use Rattle.opened_files.specs.Steps.{after, openingArrays}
+use Rattle.opened_files.proofs.Answers.{gives-as, gives-refusal}
 use Rattle.opened_files.proofs.messages.open_pair.Statement.{statement}
 use Rattle.opened_files.proofs.messages.open_pair.Tie as tie
 
@@ -30,7 +31,7 @@ open-pair-spec =
     (λ c κs. search needs)
     (λ c.
     let s = c .before .before .before in
-    sym (ap (λ (x : Outcome (Unit {0})). after x (with-key s (s .args .key))) (call-refused 20 [] (tt {0}) (c .before .same-parameters .ensures) (c .if1 .taken))))
+    gives-refusal (sym (ap (λ (x : Outcome (Unit {0})). after x (with-key s (s .args .key))) (call-refused 20 [] (tt {0}) (c .before .same-parameters .ensures) (c .if1 .taken)))))
     (λ c. search needs)
     (λ c κs. search needs)
     (λ c. search needs)
@@ -40,8 +41,8 @@ open-pair-spec =
     let t = o .before .before in
     let e = t .before .before in
     let s = e .before .before .before in
-    o .open-arrays .ensures ∙ sym (ap₂ after (passed-20 e) (ap (with-key s) (t .enum-told .given .1))))
+    gives-as (sym (ap₂ after (passed-20 e) (ap (with-key s) (t .enum-told .given .1)))) (o .open-arrays .ensures))
     (λ c.
     let e = c .before .before .before in
     let s = e .before .before .before in
-    sym (ap₂ after (passed-20 e) (ap (with-key s) (c .before .key .given .1)))))
+    gives-refusal (sym (ap₂ after (passed-20 e) (ap (with-key s) (c .before .key .given .1))))))

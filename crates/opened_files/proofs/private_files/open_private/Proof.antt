@@ -1,10 +1,11 @@
 -- `open_private` meets its contract.
-use mathlib.Core.Path.{_≡_, sym, _∙_, ap}
+use mathlib.Core.Path.{_≡_, sym, ap}
 use native.Mathlib.Omega.{arith}
 use borrow.Author.Needs.{needs}
 use lib.ListN.{length, take}
 use lib.Seq.{length-take-le}
 use Rattle.parameters.specs.Sets.{setOf}
+use Rattle.opened_files.proofs.Answers.{gives-as}
 use Rattle.opened_files.proofs.InputParts.{first-head, input-parted}
 use Rattle.opened_files.proofs.private_files.open_private.Statement.{statement}
 use Rattle.opened_files.proofs.private_files.open_private.Tie as tie
@@ -37,4 +38,4 @@ open-private-spec =
     let o = c .before .before .before in
     let f = o .before .before .before .before .before .before in
     let s = f .before .before .before in
-    o .open-private-in .ensures ∙ input-parted (s .args .input .now) (setOf (s .args .p)) (f .first-end .result) (s .pre .0) (f .first-end .ensures)))
+    gives-as (input-parted (s .args .input .now) (setOf (s .args .p)) (f .first-end .result) (s .pre .0) (f .first-end .ensures)) (o .open-private-in .ensures)))

@@ -13,6 +13,7 @@ use Rattle.files.specs.Files.{fileNumbers}
 use Rattle.files.proofs.Bounds.{numbers-few}
 use Rattle.opened_files.specs.Pairs.{fileChecks, openingPair}
 use Rattle.opened_files.specs.Steps.{openingSealed, KeyRead, keyIn}
+use Rattle.opened_files.proofs.Answers.{gives-as, gives-refusal}
 use Rattle.opened_files.proofs.InputParts.{pair-refused}
 use Rattle.opened_files.proofs.ReadFiles.{Read, accepted, N-small, file-read, file-refused}
 use Rattle.opened_files.proofs.private_files.open_private_in.Statement.{statement}
@@ -83,13 +84,14 @@ open-private-in-spec =
     let t = o .before .before .before in
     let r = t .before .before .before in
     let s = r .before .before .before .before .before .before in
-    o .open-sealed .ensures
-    ∙ ap (λ (x : List ℤ). openingSealed (setOf (s .args .p)) x (s .args .second .now)) (key-is r)
+    gives-as
+    (ap (λ (x : List ℤ). openingSealed (setOf (s .args .p)) x (s .args .second .now)) (key-is r)
     ∙ after-private (setOf (s .args .p)) (s .args .first .now) (s .args .second .now) (new r) (private-read t))
+    (o .open-sealed .ensures))
     (λ c. search needs)
     (λ c.
     let r = c .before .before .before .before in
     let f = r .before .before in
     let s = f .before .before .before .before in
     let w = c .before .refusal .given in
-    sym (pair-refused (s .args .first .now) _ (w .0 .0) (file-refused 2 (s .args .first .now) (setOf (s .args .p)) (s .pre .0) (front f) _ (r .read .ensures .0) (room f) (w .0 .0) (w .1)))))
+    gives-refusal (sym (pair-refused (s .args .first .now) _ (w .0 .0) (file-refused 2 (s .args .first .now) (setOf (s .args .p)) (s .pre .0) (front f) _ (r .read .ensures .0) (room f) (w .0 .0) (w .1))))))

@@ -12,6 +12,7 @@ use Rattle.parameters.proofs.AcceptedParameters.{accepted-parameters}
 use Rattle.files.proofs.Bounds.{numbers-few}
 use Rattle.opened_files.specs.Pairs.{fileChecks, inverseChecks}
 use Rattle.opened_files.specs.Steps.{KeyRead}
+use Rattle.opened_files.proofs.Answers.{gives-refusal}
 use Rattle.opened_files.proofs.ReadFiles.{head-refused}
 use Rattle.opened_files.proofs.ReadKeys.{key-answered}
 use Rattle.opened_files.proofs.sealed_files.open_sealed.Statement.{statement}
@@ -58,4 +59,4 @@ open-sealed-spec =
     (λ c.
     let h = c .before .before .before in
     let s = h .before .before .before .before .before .before in
-    sym (refused-first (fileChecks 3 (s .args .file .now)) _ _ _ (head-refused 3 _ (c .before .refusal .given .0 .0) (sym (h .read-head .ensures) ∙ ap made (c .before .refusal .given .1))))))
+    gives-refusal (sym (refused-first (fileChecks 3 (s .args .file .now)) _ _ _ (head-refused 3 _ (c .before .refusal .given .0 .0) (sym (h .read-head .ensures) ∙ ap made (c .before .refusal .given .1)))))))

@@ -20,6 +20,7 @@ use Rattle.files.specs.Calls.{setChecks}
 use Rattle.heads.proofs.ArraysOfKinds.{sealed-arrays}
 use Rattle.opened_files.specs.Pairs.{fileChecks, pairChecks, messageOf}
 use Rattle.opened_files.specs.Steps.{openingSealed, keyIn}
+use Rattle.opened_files.proofs.Answers.{gives-as, gives-refusal}
 use Rattle.opened_files.proofs.JoinedArrays.{last-check}
 use Rattle.opened_files.proofs.KeptArrays.{array-kept}
 use Rattle.opened_files.proofs.ReadFiles.{Read, N-small, file-read, file-refused}
@@ -117,12 +118,13 @@ open-sealed-in-spec =
     let s = r .before .before .before .before in
     let sealed = setOf (s .args .sealed) in
     let numbers = keyIn (P s) (s .args .numbers .now) in
-    o .open-pair .ensures
-    ∙ pair-is (P s) numbers (s .pre .0 .0) sealed _ (held r) (new r) (s .pre .1 .0) (kept r 0 (lit≤ tt)) (kept r 1 (lit≤ tt)) (sealed-is r) (new-long r) (reduced sealed (new r) (new-long r) (sealed-read t .sets))
+    gives-as
+    (pair-is (P s) numbers (s .pre .0 .0) sealed _ (held r) (new r) (s .pre .1 .0) (kept r 0 (lit≤ tt)) (kept r 1 (lit≤ tt)) (sealed-is r) (new-long r) (reduced sealed (new r) (new-long r) (sealed-read t .sets))
     ∙ after-sealed (P s) numbers sealed (s .args .file .now) (new r) (sealed-read t))
+    (o .open-pair .ensures))
     (λ c. search needs)
     (λ c.
     let r = c .before .before .before .before in
     let s = r .before .before .before .before in
     let w = c .before .refusal .given in
-    sym (refused-first (fileChecks 3 (s .args .file .now)) _ _ _ (file-refused 3 (s .args .file .now) (setOf (s .args .sealed)) (s .pre .1 .1) (part s) _ (r .read-sealed .ensures .1 .0) (room s) (w .0 .0) (w .1)))))
+    gives-refusal (sym (refused-first (fileChecks 3 (s .args .file .now)) _ _ _ (file-refused 3 (s .args .file .now) (setOf (s .args .sealed)) (s .pre .1 .1) (part s) _ (r .read-sealed .ensures .1 .0) (room s) (w .0 .0) (w .1))))))
