@@ -12,7 +12,7 @@
 typedef void unit_product(size_t n, const int32_t *x, const int32_t *y, int32_t *out);
 
 // The library's algorithm.
-unit_product multiply_by_four_rotations;
+unit_product multiply_by_six_rotations;
 // A simpler one, with more room on its stack: each rotation by itself, in 32 bits.
 unit_product multiply_by_single_rotations;
 

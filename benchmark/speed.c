@@ -81,7 +81,7 @@ static uint32_t seal_plain(union output *out) {
 }
 
 static uint32_t seal_same(union output *out) {
-    return rotations_seal(multiply_by_four_rotations, &parameters, h, phi, message, out->numbers);
+    return rotations_seal(multiply_by_six_rotations, &parameters, h, phi, message, out->numbers);
 }
 
 static uint32_t seal_single(union output *out) {
@@ -98,7 +98,7 @@ static uint32_t open_plain(union output *out) {
 }
 
 static uint32_t open_same(union output *out) {
-    return rotations_open(multiply_by_four_rotations, &parameters, f, f2, e, out->message);
+    return rotations_open(multiply_by_six_rotations, &parameters, f, f2, e, out->message);
 }
 
 static uint32_t open_single(union output *out) {
