@@ -3,6 +3,7 @@ use mathlib.Core.Path.{_≡_}
 use mathlib.Core.Bool.{Bool, true, cond, _&&_}
 use mathlib.Core.List.{List}
 use Prim.Native.Nat.{ℕ, _*_, _≤_}
+use lib.Dec.{eqb, leb}
 use lib.IntN.{ℤ}
 use lib.ListN.{length}
 use Rattle.polynomials.specs.Polynomials.{coefficient, zerosAndUnits}
@@ -24,3 +25,7 @@ pub record Operands (n : ℕ) (x y out : List ℤ) : Type 0 where
   pub out-long : length out ≡ 2 * n
   pub units : zerosAndUnits n (coefficient x) ≡ true
   pub y-small : Small y
+
+-- What is laid out twice: at most 2,048 small numbers, with room for them twice.
+unfoldable pub repeatable : List ℤ → ℕ → Bool
+repeatable y room = leb (length y) 2048 && (eqb room (2 * length y) && allSmall y)

@@ -17,7 +17,8 @@ use Rattle.polynomials.proofs.Eisenstein.{sum-split}
 use Rattle.arrays.specs.Arrays.{AllWithin, Small}
 use Rattle.arrays.proofs.Changing.{Changed}
 use Rattle.arrays.proofs.Scans.{sum-none, sum-more}
-use Rattle.unit_products.specs.Rotations.{Twice, run, runs, sixAt, Places, Filled, Added, Summed, Rotated}
+use Rattle.unit_operands.specs.Repeated.{Twice}
+use Rattle.unit_products.specs.Rotations.{run, runs, sixAt, Places, Filled, Added, Summed, Rotated}
 
 -- ---- an array that stands twice
 

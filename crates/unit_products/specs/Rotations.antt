@@ -17,12 +17,6 @@ abbrev pub ζ : ℤ[ω]
 abbrev pub PartsBelow : ℕ → ℤ[ω] → Type 0
 PartsBelow b x = (natAbs (x .a) ≤ b) × (natAbs (x .b) ≤ b)
 
--- `twice` is y, and y again after it
-pub record Twice (y twice : List ℤ) : Type 0 where
-  pub long : length twice ≡ 2 * length y
-  pub first : (k : ℕ) → k < length y → getD twice k (pos 0) ≡ getD y k (pos 0)
-  pub second : (k : ℕ) → k < length y → getD twice (length y + k) (pos 0) ≡ getD y k (pos 0)
-
 -- y rotated by j places, where it stands twice: a run of numbers
 abbrev pub run : ℕ → List ℤ → ℕ → Polynomial
 run n twice j i =

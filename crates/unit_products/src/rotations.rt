@@ -7,25 +7,10 @@ ghost use lib.IntN.{pos, natAbs};
 ghost use lib.ListN.{length, getD, set};
 ghost use Rattle.eisenstein.specs.Values.{value, _*ω_};
 ghost use Rattle.polynomials.specs.Polynomials.{coefficient, array, sum, convolution, zerosAndUnits};
-ghost use Rattle.arrays.specs.Arrays.{AllWithin, Small, Zeros};
+ghost use Rattle.arrays.specs.Arrays.{AllWithin, Zeros};
 ghost use Rattle.unit_operands.specs.Operands.{Operands};
-ghost use Rattle.unit_products.specs.Rotations.{ζ, PartsBelow, Twice, run, runs, sixAt, Fits, SixFit, Filled, Added, Summed, Rotated, Summands};
+ghost use Rattle.unit_products.specs.Rotations.{ζ, PartsBelow, run, runs, sixAt, Fits, SixFit, Filled, Added, Summed, Rotated, Summands};
 use crate::places::places_of;
-
-// Lays y out twice, once after the other, so that each rotation of it is one run of numbers.
-fn lay_out_twice(y: &[i32], twice: &mut [i16])
-    requires { ⌜ (length (now y) ≤ 2048) × (length (now twice) ≡ 2 * length (now y)) ⌝ }
-    requires { ⌜ Small (now y) ⌝ }
-    ensures { λ _. ⌜ Twice (now (y .entry)) (now (twice .exit)) ⌝ }
-{
-    let mut k = 0;
-    while k < y.len() {
-        let v = y[k] as i16;
-        twice[k] = v;
-        twice[y.len() + k] = v;
-        k += 1;
-    }
-}
 
 // The sum of six numbers of `twice`, formed in 16 bits.
 fn sum_of_six(twice: &[i16], a: usize, b: usize, c: usize, d: usize, e: usize, f: usize) -> i16
@@ -267,7 +252,7 @@ fn multiply_with(
     requires { ⌜ Operands n (now x) (now y) (now out) × (length (now twice) ≡ 2 * (2 * n)) × (n ≤ length (now places)) × (length (now block) ≡ 256) ⌝ }
     ensures { λ _. ⌜ now (out .exit) ≡ array n (convolution n (coefficient (now (x .entry))) (coefficient (now (y .entry)))) ⌝ }
 {
-    lay_out_twice(y, twice);
+    unit_operands::lay_out_twice(y, twice);
     arrays::clear(out);
     add_units(x, n, twice, places, block, out);
 }

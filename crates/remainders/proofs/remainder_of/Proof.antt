@@ -1,6 +1,5 @@
 -- `remainder_of` meets its contract: the remainder fits 32 bits.
 use mathlib.Core.Path.{_≡_, sym, _∙_, ap, ap₂, subst}
-use mathlib.Core.Logic.{_≢_}
 use Prim.Native.Nat.{_≤_, _^_}
 use lib.Dec.{T, lit<}
 use lib.IntN.{ℤ, natAbs}
@@ -8,7 +7,7 @@ use mir.Syntax.{w32, w64}
 use mir.Val.{toZ, ofZ, SFits}
 use mir.Facts.{toZ-ofZ}
 use Rattle.integers.proofs.Machine.{cast-fits, sfits-within}
-use Rattle.eisenstein.specs.Values.{ℤ[ω], value, 𝟘, same}
+use Rattle.eisenstein.specs.Values.{ℤ[ω], value}
 use Rattle.eisenstein.specs.Reduction.{modQ}
 use Rattle.eisenstein.proofs.Limits.{within}
 use Rattle.eisenstein.proofs.Pairs.{pair-read, pair-cast}

@@ -1,4 +1,4 @@
--- `lay_out_twice` meets its contract. The loop's invariant: the numbers so far stand twice.
+-- `lay_out` meets its contract. The loop's invariant: the numbers so far stand twice.
 use mathlib.Core.Path.{_≡_, sym, _∙_, ap, subst}
 use mathlib.Core.List.{List}
 use Prim.Native.Nat.{ℕ, _+_, _-_, _*_, _≤_, _<_}
@@ -12,8 +12,8 @@ use mir.Syntax.{w16, w32}
 use mir.Val.{SFits, toZ, ofZ}
 use mir.Facts.{toZ-ofZ}
 use Rattle.integers.proofs.Machine.{sfits-within}
-use Rattle.unit_products.proofs.rotations.lay_out_twice.Statement.{statement}
-use Rattle.unit_products.proofs.rotations.lay_out_twice.Tie as tie
+use Rattle.unit_operands.proofs.twice.lay_out.Statement.{statement}
+use Rattle.unit_operands.proofs.twice.lay_out.Tie as tie
 
 -- the first k numbers of y stand twice
 record So (y t : List ℤ) (k : ℕ) : Type 0 where
@@ -52,8 +52,8 @@ fits-16 c = sfits-within (number c) (c .before .before .pre .1 (c .before .loop 
 fits-32 : (c : tie.In-loop Inv-loop μ-loop) → SFits w32 (number c)
 fits-32 c = sfits-within (number c) (c .before .before .pre .1 (c .before .loop .k)) (lit< tt)
 
-pub lay-out-twice-spec : {M : Type 1} → statement M
-lay-out-twice-spec =
+pub lay-out-spec : {M : Type 1} → statement M
+lay-out-spec =
     tie.close
     (tie.spec
     Inv-loop
