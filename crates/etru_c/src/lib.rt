@@ -5,9 +5,9 @@ ghost use mathlib.Core.Path.{_≡_};
 ghost use lib.ListN.{length};
 ghost use Rattle.refusals.specs.Outcomes.{number, Gives};
 ghost use Rattle.eisenstein.specs.Values.{value};
-ghost use Rattle.eisenstein.specs.Calls.{reduce2, answered};
+ghost use Rattle.eisenstein.specs.Calls.{reduce2};
 ghost use Rattle.remainders.specs.Calls.{reduceQ};
-ghost use Rattle.parameters.specs.Sets.{set, parameters, made};
+ghost use Rattle.parameters.specs.Sets.{set, parameters};
 ghost use Rattle.message_packing.specs.Calls.{packing};
 ghost use Rattle.message_unpacking.specs.Calls.{unpacking};
 ghost use Rattle.convolution.specs.Calls.{convolving};
@@ -15,32 +15,14 @@ ghost use Rattle.etru.specs.Calls.{keyCheck, sealing, opening};
 ghost use Rattle.head_reading.specs.Calls.{readingHead};
 ghost use Rattle.files.specs.Calls.{reading, writing};
 ghost use Rattle.opening.specs.Program.{lineWriting, lineLength};
-use eisenstein::Reduced;
-use parameters::Made;
 use parameters::Parameters;
-
-// Hands an answer on: a remainder to the outputs, or a refusal's number alone.
-fn give(answer: Reduced, ra: &mut i32, rb: &mut i32) -> u32
-    ensures { λ r. ⌜ Gives (answered answer) r (value (now (ra .entry)) (now (rb .entry))) (value (now (ra .exit)) (now (rb .exit))) ⌝ }
-{
-    match answer {
-        Reduced::Remainder(r) => {
-            let a = r.a;
-            let b = r.b;
-            *ra = a;
-            *rb = b;
-            0
-        }
-        Reduced::Refused(refusal) => refusal.number(),
-    }
-}
 
 // The remainder of (a, b) modulo q = (c, d), to ra and rb.
 #[no_mangle]
 pub extern "C" fn etru_reduce_q(a: i64, b: i64, c: i32, d: i32, ra: &mut i32, rb: &mut i32) -> u32
     ensures { λ r. ⌜ Gives (reduceQ (value c d) (value a b)) r (value (now (ra .entry)) (now (rb .entry))) (value (now (ra .exit)) (now (rb .exit))) ⌝ }
 {
-    give(remainders::reduce_q(a, b, c, d), ra, rb)
+    answer_outputs::give(remainders::reduce_q(a, b, c, d), ra, rb)
 }
 
 // The remainder of (a, b) modulo 2, to ra and rb.
@@ -48,7 +30,7 @@ pub extern "C" fn etru_reduce_q(a: i64, b: i64, c: i32, d: i32, ra: &mut i32, rb
 pub extern "C" fn etru_reduce_2(a: i64, b: i64, ra: &mut i32, rb: &mut i32) -> u32
     ensures { λ r. ⌜ Gives (reduce2 (value a b)) r (value (now (ra .entry)) (now (rb .entry))) (value (now (ra .exit)) (now (rb .exit))) ⌝ }
 {
-    give(eisenstein::reduce_2(a, b), ra, rb)
+    answer_outputs::give(eisenstein::reduce_2(a, b), ra, rb)
 }
 
 // Whether a parameter set is accepted.
@@ -152,37 +134,6 @@ pub extern "C" fn etru_unpack(n: u32, m: &[i32], message: &mut [u8]) -> u32
     message_unpacking::unpack(n, m, message).number()
 }
 
-// Hands parameters on to the outputs, or a refusal's number alone.
-fn give_parameters(
-    answer: Made,
-    n: &mut u32,
-    c: &mut i32,
-    d: &mut i32,
-    s: &mut u32,
-    t: &mut u32,
-) -> u32
-    ensures { λ r. ⌜ Gives (made answer) r
-        (set (now (n .entry)) (now (c .entry)) (now (d .entry)) (now (s .entry)) (now (t .entry)))
-        (set (now (n .exit)) (now (c .exit)) (now (d .exit)) (now (s .exit)) (now (t .exit))) ⌝ }
-{
-    match answer {
-        Made::Accepted(p) => {
-            let pn = p.n;
-            let pc = p.c;
-            let pd = p.d;
-            let ps = p.s;
-            let pt = p.t;
-            *n = pn;
-            *c = pc;
-            *d = pd;
-            *s = ps;
-            *t = pt;
-            0
-        }
-        Made::Refused(refusal) => refusal.number(),
-    }
-}
-
 // The parameters of a file of the wanted kind, from its head alone, to n, c, d, s and t.
 #[no_mangle]
 pub extern "C" fn etru_read_head(
@@ -198,7 +149,7 @@ pub extern "C" fn etru_read_head(
         (set (now (n .entry)) (now (c .entry)) (now (d .entry)) (now (s .entry)) (now (t .entry)))
         (set (now (n .exit)) (now (c .exit)) (now (d .exit)) (now (s .exit)) (now (t .exit))) ⌝ }
 {
-    give_parameters(head_reading::read_head(kind, file), n, c, d, s, t)
+    answer_outputs::give_parameters(head_reading::read_head(kind, file), n, c, d, s, t)
 }
 
 // The arrays of a file of the wanted kind, one after another in stored order, to numbers.

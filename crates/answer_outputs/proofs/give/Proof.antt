@@ -9,8 +9,8 @@ use Rattle.eisenstein.specs.Values.{value}
 use Rattle.eisenstein.specs.Calls.{answered}
 use Rattle.eisenstein.specs.declared.Reduced.{Reduced}
 use Rattle.eisenstein.proofs.Pairs.{pair-read}
-use Rattle.etru_c.proofs.give.Statement.{statement}
-use Rattle.etru_c.proofs.give.Tie as tie
+use Rattle.answer_outputs.proofs.give.Statement.{statement}
+use Rattle.answer_outputs.proofs.give.Tie as tie
 
 pub give-spec : {M : Type 1} → statement M
 give-spec =

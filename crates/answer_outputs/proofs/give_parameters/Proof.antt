@@ -9,8 +9,8 @@ use mir.Facts.{toZ-ofZ}
 use Rattle.refusals.specs.Outcomes.{number, written}
 use Rattle.parameters.specs.Sets.{ParameterSet, set, made}
 use Rattle.parameters.specs.declared.Made.{Made}
-use Rattle.etru_c.proofs.give_parameters.Statement.{statement}
-use Rattle.etru_c.proofs.give_parameters.Tie as tie
+use Rattle.answer_outputs.proofs.give_parameters.Statement.{statement}
+use Rattle.answer_outputs.proofs.give_parameters.Tie as tie
 
 -- what the outputs hold beforehand
 abbrev old : tie.Start → ParameterSet
