@@ -14,8 +14,8 @@ use Rattle.polynomials.specs.Polynomials.{coefficient, reducedQ}
 use Rattle.arrays.specs.Arrays.{full, Small}
 use Rattle.arrays.specs.Conditions.{Modulus}
 use Rattle.arrays.proofs.Sizes.{reducedQ-small}
+use Rattle.convolution_refusals.specs.Checks.{convolvingChecks}
 use Rattle.convolution.specs.Conditions.{Full}
-use Rattle.convolution.specs.Calls.{convolvingChecks}
 
 pub record Convolving (p : ParameterSet) (x y out : List ℤ) : Type 0 where
   pub arrays : Full (p .N) x y out

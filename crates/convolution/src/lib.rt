@@ -7,9 +7,9 @@ ghost use Rattle.refusals.specs.Numbers.{answered};
 ghost use Rattle.parameters.specs.Sets.{setOf};
 ghost use Rattle.convolution.specs.Calls.{convolving};
 
-mod checks;
 mod direct;
 
+use convolution_refusals::convolving_refusal;
 use parameters::Parameters;
 use refusals::Answer;
 
@@ -20,7 +20,7 @@ pub fn convolve(p: Parameters, x: &[i32], y: &[i32], out: &mut [i32]) -> Answer
     let n = p.n;
     let c = p.c;
     let d = p.d;
-    match checks::convolving_refusal(p, x, y, out.len()) {
+    match convolving_refusal(p, x, y, out.len()) {
         Answer::Done => {
             direct::convolve_q(x, y, n as usize, c, d, out);
             Answer::Done

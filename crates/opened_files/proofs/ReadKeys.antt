@@ -16,7 +16,8 @@ use Rattle.refusals.specs.declared.Answer.{Answer}
 use Rattle.refusals.proofs.Checks.{positive, same-number, passed-all, holds-passed, fails-refused, none-left, done-holds}
 use Rattle.eisenstein.specs.Values.{ℤ[ω], same}
 use Rattle.eisenstein.proofs.Equality.{same-yes}
-use Rattle.parameters.specs.Sets.{ParameterSet, parameterChecks, sameSet}
+use Rattle.parameters.specs.Sets.{ParameterSet, parameterChecks}
+use Rattle.parameter_comparison.specs.Comparison.{sameSet}
 use Rattle.polynomials.specs.Polynomials.{coefficient, array, unitsOnly, reduced2, reducedQ}
 use Rattle.packing.specs.Messages.{messageBytes}
 use Rattle.arrays.specs.Arrays.{full}

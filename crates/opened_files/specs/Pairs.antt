@@ -7,7 +7,8 @@ use lib.IntN.{ℤ}
 use lib.ListN.{length, take, drop}
 use Rattle.refusals.specs.Outcomes.{Check, Outcome, done, refused, outcome, _if_}
 use Rattle.refusals.specs.Numbers.{numberOf}
-use Rattle.parameters.specs.Sets.{ParameterSet, sameSet}
+use Rattle.parameters.specs.Sets.{ParameterSet}
+use Rattle.parameter_comparison.specs.Comparison.{sameSet}
 use Rattle.polynomials.specs.Polynomials.{coefficient}
 use Rattle.packing.specs.Messages.{unpacked}
 use Rattle.etru.specs.Scheme.{opened}

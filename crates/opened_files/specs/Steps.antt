@@ -6,7 +6,8 @@ use Prim.Native.Nat.{ℕ}
 use lib.IntN.{ℤ}
 use lib.ListN.{length, take, drop}
 use Rattle.refusals.specs.Outcomes.{Outcome, outcome, done, refused, Gives, Passes, _if_}
-use Rattle.parameters.specs.Sets.{ParameterSet, parameterChecks, sameSet}
+use Rattle.parameters.specs.Sets.{ParameterSet, parameterChecks}
+use Rattle.parameter_comparison.specs.Comparison.{sameSet}
 use Rattle.packing.specs.Messages.{messageBytes}
 use Rattle.etru.specs.Calls.{opening}
 use Rattle.heads.specs.Kinds.{arraysOf}

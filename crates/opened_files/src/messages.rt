@@ -9,8 +9,8 @@ ghost use Rattle.etru.specs.Calls.{opening};
 ghost use Rattle.opened_files.specs.Pairs.{GivesMessage};
 ghost use Rattle.opened_files.specs.Steps.{Room, openingArrays, openingWith};
 use crate::Opened;
+use parameter_comparison::same_parameters;
 use parameters::Parameters;
-use parameters::same_parameters;
 use refusals::Answer;
 use refusals::Refusal;
 

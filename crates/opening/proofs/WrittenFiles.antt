@@ -14,7 +14,8 @@ use Rattle.refusals.specs.Outcomes.{done, outcome, Passes}
 use Rattle.refusals.proofs.Checks.{holds-passed, none-left, done-passed, done-parts, done-all, passed-all, done-with}
 use Rattle.eisenstein.specs.Values.{same}
 use Rattle.eisenstein.proofs.Equality.{same-true}
-use Rattle.parameters.specs.Sets.{ParameterSet, parameterChecks, sameSet}
+use Rattle.parameters.specs.Sets.{ParameterSet, parameterChecks}
+use Rattle.parameter_comparison.specs.Comparison.{sameSet}
 use Rattle.polynomials.specs.Polynomials.{coefficient, convolution, one, congruentQ, congruent2}
 use Rattle.packing.specs.Messages.{messageBytes}
 use Rattle.array_sets.specs.declared.ArraySet.the-variants.{F, G, ReducedModulo2, ReducedModuloQ}

@@ -6,7 +6,7 @@ use lib.Dec.{ltb, eqb}
 use lib.IntN.{ℤ}
 use Rattle.refusals.specs.Outcomes.{Check, _if_, Outcome, done, refused, outcome}
 use Rattle.refusals.specs.Numbers.{numberOf}
-use Rattle.eisenstein.specs.Values.{ℤ[ω], value, norm, same}
+use Rattle.eisenstein.specs.Values.{ℤ[ω], value, norm}
 use Rattle.eisenstein.specs.Reduction.{bit}
 use Rattle.eisenstein.specs.Calls.{beyond}
 use Rattle.parameters.specs.declared.Parameters.{Parameters}
@@ -50,10 +50,6 @@ parameterChecks p =
 
 unfoldable pub parameters : ParameterSet → Outcome ParameterSet
 parameters p = outcome (parameterChecks p) p
-
--- "the two files' parameters differ"
-unfoldable pub sameSet : ParameterSet → ParameterSet → Bool
-sameSet p p′ = eqb (p .N) (p′ .N) && (same (p .q) (p′ .q) && (eqb (p .s) (p′ .s) && eqb (p .t) (p′ .t)))
 
 -- The answer of the maker, as an outcome.
 abbrev pub made : Made → Outcome ParameterSet

@@ -9,7 +9,7 @@ ghost use Rattle.refusals.specs.Outcomes.{outcome};
 ghost use Rattle.refusals.specs.Numbers.{answered};
 ghost use Rattle.eisenstein.specs.Values.{value, norm};
 ghost use Rattle.eisenstein.specs.Calls.{beyond};
-ghost use Rattle.parameters.specs.Sets.{set, setOf, outside, even, parameterChecks, parameters, made, sameSet};
+ghost use Rattle.parameters.specs.Sets.{set, setOf, outside, even, parameterChecks, parameters, made};
 use refusals::Answer;
 use refusals::Refusal;
 
@@ -124,33 +124,4 @@ impl Parameters {
             Answer::Refused(refusal) => Made::Refused(refusal),
         }
     }
-}
-
-// Whether two sets are the same in all five numbers.
-pub fn same_parameters(p: Parameters, other: Parameters) -> bool
-    ensures { λ r. ⌜ r ≡ sameSet (setOf p) (setOf other) ⌝ }
-{
-    let n = p.n;
-    let c = p.c;
-    let d = p.d;
-    let s = p.s;
-    let t = p.t;
-    let other_n = other.n;
-    let other_c = other.c;
-    let other_d = other.d;
-    let other_s = other.s;
-    let other_t = other.t;
-    if n != other_n {
-        return false;
-    }
-    if c != other_c {
-        return false;
-    }
-    if d != other_d {
-        return false;
-    }
-    if s != other_s {
-        return false;
-    }
-    t == other_t
 }

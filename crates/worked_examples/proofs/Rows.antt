@@ -9,7 +9,8 @@ use Rattle.eisenstein.specs.Reduction.{Remainder, modQ, mod2, bit, cell, corner
 use Rattle.eisenstein.specs.Calls.{beyond}
 use Rattle.eisenstein.proofs.Equality.{same-yes, same-true}
 use Rattle.eisenstein.proofs.Remainders.{modQ-is-remainder}
-use Rattle.parameters.specs.Sets.{outside, even, bound, parameterChecks, parameters, sameSet}
+use Rattle.parameters.specs.Sets.{outside, even, bound, parameterChecks, parameters}
+use Rattle.parameter_comparison.specs.Comparison.{sameSet}
 use Rattle.polynomials.specs.Polynomials.{coefficient, array, sum, convolution, one, all, count, nonzero, among, unitsOnly, unitsOfSumZero, reducedQ, reduced2, congruentQ, congruent2}
 use Rattle.packing.specs.Messages.{bitOf, pair, packed, spareBitSet, messageBit, byte, listed, unpacked}
 use Rattle.etru.specs.Scheme.{publicKey, sealed, opened}

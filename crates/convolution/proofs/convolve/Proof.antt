@@ -14,7 +14,8 @@ use Rattle.eisenstein.proofs.Pairs.{pair-read}
 use Rattle.parameters.specs.Sets.{ParameterSet, setOf, parameterChecks}
 use Rattle.polynomials.specs.Polynomials.{coefficient, array, convolution}
 use Rattle.arrays.proofs.Sizes.{modulus-handed}
-use Rattle.convolution.specs.Calls.{convolvingChecks, convolving}
+use Rattle.convolution_refusals.specs.Checks.{convolvingChecks}
+use Rattle.convolution.specs.Calls.{convolving}
 use Rattle.convolution.proofs.Operands.{convolving-passed}
 use Rattle.convolution.proofs.convolve.Statement.{statement}
 use Rattle.convolution.proofs.convolve.Tie as tie

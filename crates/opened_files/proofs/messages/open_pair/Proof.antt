@@ -8,7 +8,8 @@ use Rattle.refusals.specs.Outcomes.{Outcome, done, outcome, _if_}
 use Rattle.refusals.specs.Numbers.{answered}
 use Rattle.refusals.specs.declared.Answer.{Answer}
 use Rattle.refusals.proofs.Checks.{call-passed, call-refused, none-left}
-use Rattle.parameters.specs.Sets.{setOf, sameSet}
+use Rattle.parameters.specs.Sets.{setOf}
+use Rattle.parameter_comparison.specs.Comparison.{sameSet}
 use Rattle.opened_files.specs.Steps.{after, openingArrays}
 use Rattle.opened_files.proofs.Answers.{gives-as, gives-refusal}
 use Rattle.opened_files.proofs.messages.open_pair.Statement.{statement}

@@ -4,8 +4,8 @@ use mathlib.Core.Bool.{Bool, _&&_}
 use borrow.Author.Needs.{needs}
 use Rattle.eisenstein.specs.Values.{value}
 use Rattle.polynomials.specs.Polynomials.{coefficient, reducedQ}
-use Rattle.convolution.proofs.checks.both_reduced.Statement.{statement}
-use Rattle.convolution.proofs.checks.both_reduced.Tie as tie
+use Rattle.convolution_refusals.proofs.both_reduced.Statement.{statement}
+use Rattle.convolution_refusals.proofs.both_reduced.Tie as tie
 
 abbrev y-reduced : tie.Start → Bool
 y-reduced s = reducedQ (s .args .p .n) (value (s .args .p .c) (s .args .p .d)) (coefficient (s .args .y .now))

@@ -1,4 +1,5 @@
-// Convolution's refusals, in document 01's order: those of the parameter set, 7 for all lengths, then 12 for both operands.
+// The refusals of convolution: the first that applies, in document 01's order.
+// It multiplies nothing.
 ghost use mathlib.Core.Path.{_≡_};
 ghost use mathlib.Core.Bool.{_&&_};
 ghost use mathlib.Core.List.{_++_};
@@ -9,7 +10,7 @@ ghost use Rattle.refusals.specs.Numbers.{answered};
 ghost use Rattle.eisenstein.specs.Values.{value};
 ghost use Rattle.parameters.specs.Sets.{setOf, parameterChecks};
 ghost use Rattle.polynomials.specs.Polynomials.{coefficient, reducedQ};
-ghost use Rattle.convolution.specs.Calls.{convolvingChecks};
+ghost use Rattle.convolution_refusals.specs.Checks.{convolvingChecks};
 use array_sets::ArraySet;
 use arrays::three_full;
 use parameters::Parameters;
@@ -50,7 +51,8 @@ fn operand_refusal(p: Parameters, x: &[i32], y: &[i32], room: usize) -> Answer
     Answer::Done
 }
 
-pub(crate) fn convolving_refusal(p: Parameters, x: &[i32], y: &[i32], room: usize) -> Answer
+// Those of the parameter set, 7 for all lengths, then 12 for both operands.
+pub fn convolving_refusal(p: Parameters, x: &[i32], y: &[i32], room: usize) -> Answer
     ensures { λ r. ⌜ answered r ≡ outcome (parameterChecks (setOf p) ++ convolvingChecks (p .n) (value (p .c) (p .d)) (now (x .entry)) (now (y .entry)) room) tt ⌝ }
 {
     match p.check() {

@@ -7,9 +7,9 @@ use Rattle.refusals.specs.Numbers.{answered}
 use Rattle.refusals.proofs.Checks.{passed-all, refused-first}
 use Rattle.eisenstein.specs.Values.{value}
 use Rattle.parameters.specs.Sets.{setOf, parameterChecks}
-use Rattle.convolution.specs.Calls.{convolvingChecks}
-use Rattle.convolution.proofs.checks.convolving_refusal.Statement.{statement}
-use Rattle.convolution.proofs.checks.convolving_refusal.Tie as tie
+use Rattle.convolution_refusals.specs.Checks.{convolvingChecks}
+use Rattle.convolution_refusals.proofs.convolving_refusal.Statement.{statement}
+use Rattle.convolution_refusals.proofs.convolving_refusal.Tie as tie
 
 abbrev checks : tie.Start → List Check
 checks s = convolvingChecks (s .args .p .n) (value (s .args .p .c) (s .args .p .d)) (s .args .x .now) (s .args .y .now) (s .args .room)

@@ -9,9 +9,9 @@ use mir.Val.{ofZ, SFits}
 use Rattle.integers.proofs.Machine.{bits-same}
 use Rattle.eisenstein.specs.Values.{same, sameℤ}
 use Rattle.eisenstein.proofs.Equality.{sameℤ-true, sameℤ-false}
-use Rattle.parameters.specs.Sets.{sameSet}
-use Rattle.parameters.proofs.same_parameters.Statement.{statement}
-use Rattle.parameters.proofs.same_parameters.Tie as tie
+use Rattle.parameter_comparison.specs.Comparison.{sameSet}
+use Rattle.parameter_comparison.proofs.same_parameters.Statement.{statement}
+use Rattle.parameter_comparison.proofs.same_parameters.Tie as tie
 
 abbrev test-c : tie.Start → Bool
 test-c s = sameℤ (s .args .p .c) (s .args .other .c)

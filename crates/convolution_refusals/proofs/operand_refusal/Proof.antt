@@ -11,9 +11,9 @@ use Rattle.refusals.proofs.Checks.{none-left, holds, call-passed, call-refused}
 use Rattle.eisenstein.specs.Values.{value}
 use Rattle.polynomials.specs.Polynomials.{coefficient, reducedQ}
 use Rattle.arrays.specs.Arrays.{full}
-use Rattle.convolution.specs.Calls.{convolvingChecks}
-use Rattle.convolution.proofs.checks.operand_refusal.Statement.{statement}
-use Rattle.convolution.proofs.checks.operand_refusal.Tie as tie
+use Rattle.convolution_refusals.specs.Checks.{convolvingChecks}
+use Rattle.convolution_refusals.proofs.operand_refusal.Statement.{statement}
+use Rattle.convolution_refusals.proofs.operand_refusal.Tie as tie
 
 -- the checks from 12 on, and from 7 on
 abbrev from-12 : tie.Start → List Check

@@ -14,8 +14,8 @@ use Rattle.parameters.specs.Sets.{setOf, parameterChecks}
 use Rattle.polynomials.specs.Polynomials.{coefficient, reducedQ}
 use Rattle.arrays.specs.Arrays.{full}
 use Rattle.array_sets.specs.Sets.{arrayChecks, arrayCheck}
-use Rattle.convolution.proofs.checks.is_reduced.Statement.{statement}
-use Rattle.convolution.proofs.checks.is_reduced.Tie as tie
+use Rattle.convolution_refusals.proofs.is_reduced.Statement.{statement}
+use Rattle.convolution_refusals.proofs.is_reduced.Tie as tie
 
 abbrev test : tie.Start → Bool
 test s = reducedQ (s .args .p .n) (value (s .args .p .c) (s .args .p .d)) (coefficient (s .args .x .now))
