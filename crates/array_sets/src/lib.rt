@@ -1,9 +1,8 @@
 // The sets that an array is held to, of f, of g and of φ, or being reduced, and the refusals 7 to 12 of one array.
-// It forms no product of arrays, and changes none.
+// It looks at no coefficient itself, forms no product of arrays, and changes none.
 ghost use mathlib.Core.Path.{_≡_};
 ghost use Rattle.refusals.specs.Numbers.{answered};
 ghost use Rattle.parameters.specs.Sets.{setOf};
-ghost use Rattle.polynomials.specs.Polynomials.{coefficient, reduced2};
 ghost use Rattle.array_sets.specs.Sets.{arrayCheck};
 
 mod sets;
@@ -18,13 +17,6 @@ pub enum ArraySet {
     Phi,
     ReducedModulo2,
     ReducedModuloQ,
-}
-
-// Whether the first N coefficients are reduced modulo 2.
-pub fn reduced_modulo_2(x: &[i32], n: u32) -> bool
-    ensures { λ r. ⌜ r ≡ reduced2 n (coefficient (now (x .entry))) ⌝ }
-{
-    sets::all_reduced_modulo_2(x, n as usize)
 }
 
 // Whether one array of a parameter set is in a set.

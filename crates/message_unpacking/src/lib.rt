@@ -23,7 +23,7 @@ fn unpacking_refusal(n: u32, m: &[i32], room: usize) -> Answer
     if !message_and_array_full(n, room, m.len()) {
         return Answer::Refused(Refusal::WrongLength);
     }
-    if !array_sets::reduced_modulo_2(m, n) {
+    if !set_tests::reduced_modulo_2(m, n) {
         return Answer::Refused(Refusal::NotReducedModulo2);
     }
     Answer::Done

@@ -11,8 +11,8 @@ use Rattle.eisenstein.proofs.Pairs.{pair-read}
 use Rattle.polynomials.specs.Polynomials.{coefficient, reducedQ}
 use Rattle.arrays.proofs.Scans.{Scanned, scan-none, scan-more, scan-fails, scan-all}
 use Rattle.arrays.proofs.Sizes.{modulus-handed}
-use Rattle.array_sets.proofs.sets.all_reduced_modulo_q.Statement.{statement}
-use Rattle.array_sets.proofs.sets.all_reduced_modulo_q.Tie as tie
+use Rattle.set_tests.proofs.scans.all_reduced_modulo_q.Statement.{statement}
+use Rattle.set_tests.proofs.scans.all_reduced_modulo_q.Tie as tie
 
 abbrev Inv-loop : tie.InvT-loop
 Inv-loop x n c d i₀ i = Scanned (λ k. same (modQ (value (toZ w32 c) (toZ w32 d)) (coefficient x k)) (coefficient x k)) n i

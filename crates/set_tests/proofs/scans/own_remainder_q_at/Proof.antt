@@ -14,8 +14,8 @@ use Rattle.eisenstein.specs.Calls.{beyond}
 use Rattle.eisenstein.proofs.Equality.{same-false}
 use Rattle.eisenstein.proofs.Pairs.{pair-read}
 use Rattle.polynomials.specs.Polynomials.{coefficient}
-use Rattle.array_sets.proofs.sets.own_remainder_q_at.Statement.{statement}
-use Rattle.array_sets.proofs.sets.own_remainder_q_at.Tie as tie
+use Rattle.set_tests.proofs.scans.own_remainder_q_at.Statement.{statement}
+use Rattle.set_tests.proofs.scans.own_remainder_q_at.Tie as tie
 
 -- the coefficient and the modulus as the callee is handed them
 abbrev at : tie.Start → ℕ → ℤ

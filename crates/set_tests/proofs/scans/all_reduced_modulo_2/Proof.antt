@@ -7,8 +7,8 @@ use Rattle.eisenstein.specs.Values.{same}
 use Rattle.eisenstein.specs.Reduction.{mod2}
 use Rattle.polynomials.specs.Polynomials.{coefficient, reduced2}
 use Rattle.arrays.proofs.Scans.{Scanned, scan-none, scan-more, scan-fails, scan-all}
-use Rattle.array_sets.proofs.sets.all_reduced_modulo_2.Statement.{statement}
-use Rattle.array_sets.proofs.sets.all_reduced_modulo_2.Tie as tie
+use Rattle.set_tests.proofs.scans.all_reduced_modulo_2.Statement.{statement}
+use Rattle.set_tests.proofs.scans.all_reduced_modulo_2.Tie as tie
 
 abbrev Inv-loop : tie.InvT-loop
 Inv-loop x n i₀ i = Scanned (λ k. same (mod2 (coefficient x k)) (coefficient x k)) n i

@@ -8,8 +8,8 @@ use native.Mathlib.Omega.{arith}
 use native.Mathlib.Numerals.{add-one}
 use lib.IntN.{ℤ}
 use Rattle.polynomials.specs.Polynomials.{coefficient, count, nonzero}
-use Rattle.array_sets.proofs.sets.count_nonzero.Statement.{statement}
-use Rattle.array_sets.proofs.sets.count_nonzero.Tie as tie
+use Rattle.set_tests.proofs.scans.count_nonzero.Statement.{statement}
+use Rattle.set_tests.proofs.scans.count_nonzero.Tie as tie
 
 abbrev test : List ℤ → ℕ → Bool
 test x i = nonzero (coefficient x i)

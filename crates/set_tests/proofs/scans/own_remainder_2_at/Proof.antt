@@ -7,8 +7,8 @@ use Rattle.eisenstein.specs.Values.{same}
 use Rattle.eisenstein.specs.Reduction.{mod2}
 use Rattle.eisenstein.proofs.Pairs.{pair-cast}
 use Rattle.arrays.proofs.Sizes.{coefficient-read}
-use Rattle.array_sets.proofs.sets.own_remainder_2_at.Statement.{statement}
-use Rattle.array_sets.proofs.sets.own_remainder_2_at.Tie as tie
+use Rattle.set_tests.proofs.scans.own_remainder_2_at.Statement.{statement}
+use Rattle.set_tests.proofs.scans.own_remainder_2_at.Tie as tie
 
 pub own-remainder-2-at-spec : {M : Type 1} → statement M
 own-remainder-2-at-spec =

@@ -12,8 +12,8 @@ use Rattle.integers.proofs.Machine.{bits-same, sfits-within}
 use Rattle.eisenstein.specs.Values.{same, sameℤ}
 use Rattle.eisenstein.proofs.Equality.{same-bits, sameℤ-true, sameℤ-false}
 use Rattle.polynomials.specs.Polynomials.{coefficient, nonzero}
-use Rattle.array_sets.proofs.sets.nonzero_at.Statement.{statement}
-use Rattle.array_sets.proofs.sets.nonzero_at.Tie as tie
+use Rattle.set_tests.proofs.scans.nonzero_at.Statement.{statement}
+use Rattle.set_tests.proofs.scans.nonzero_at.Tie as tie
 
 zero-fits : SFits w32 (pos 0)
 zero-fits = sfits-within {b = 0} (pos 0) (lit≤ tt) (lit< tt)

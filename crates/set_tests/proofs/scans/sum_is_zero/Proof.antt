@@ -10,8 +10,8 @@ use Rattle.integers.proofs.Machine.{sum-fits, sum-read, sum-size}
 use Rattle.eisenstein.specs.Values.{ℤ[ω], value, 𝟘, _+ω_, same}
 use Rattle.polynomials.specs.Polynomials.{coefficient, sum}
 use Rattle.arrays.proofs.Scans.{sum-none, sum-more}
-use Rattle.array_sets.proofs.sets.sum_is_zero.Statement.{statement}
-use Rattle.array_sets.proofs.sets.sum_is_zero.Tie as tie
+use Rattle.set_tests.proofs.scans.sum_is_zero.Statement.{statement}
+use Rattle.set_tests.proofs.scans.sum_is_zero.Tie as tie
 
 abbrev Inv-loop : tie.InvT-loop
 Inv-loop x n a₀ b₀ i₀ a b i =
