@@ -6,17 +6,14 @@ ghost use Rattle.eisenstein.specs.Values.{value, same};
 ghost use Rattle.polynomials.specs.Polynomials.{coefficient};
 ghost use Rattle.unit_products.specs.Rotations.{Places};
 
-// Whether coefficient i is (a, b).
+// Whether coefficient i is (a, b). Both parts are asked in any case: a jump by the first would be guessed by the processor, and often wrongly.
 fn coefficient_is(x: &[i32], i: usize, a: i32, b: i32) -> bool
     requires { ⌜ (i < 1024) × (2 * i + 1 < length (now x)) ⌝ }
     ensures { λ r. ⌜ r ≡ same (coefficient (now (x .entry)) i) (value a b) ⌝ }
 {
     let xa = x[2 * i];
     let xb = x[2 * i + 1];
-    if xa == a {
-        return xb == b;
-    }
-    false
+    (xa == a) & (xb == b)
 }
 
 // Lists the places at which x is u = (ua, ub), and gives their count. Each place is written, and stays if it counts.
