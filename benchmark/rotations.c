@@ -21,12 +21,21 @@ static size_t places_of(size_t n, const int32_t *x, int32_t a, int32_t b, uint16
     return count;
 }
 
-// In one loop, of which gcc makes better code than of two with a block of sums between them.
+// The sums of six runs go to a block, and the block to all sums, as in the library.
+#define BLOCK 256
+
 static void add_six(size_t count, const int16_t *restrict a, const int16_t *restrict b, const int16_t *restrict c,
                     const int16_t *restrict d, const int16_t *restrict e, const int16_t *restrict f,
                     int32_t *restrict sums) {
-    for (size_t k = 0; k < count; k++) {
-        sums[k] += (int16_t)(a[k] + b[k] + c[k] + d[k] + e[k] + f[k]);
+    int16_t block[BLOCK];
+    for (size_t from = 0; from < count; from += BLOCK) {
+        size_t part = count - from < BLOCK ? count - from : BLOCK;
+        for (size_t k = 0; k < part; k++) {
+            block[k] = (int16_t)(a[from + k] + b[from + k] + c[from + k] + d[from + k] + e[from + k] + f[from + k]);
+        }
+        for (size_t k = 0; k < part; k++) {
+            sums[from + k] += block[k];
+        }
     }
 }
 
