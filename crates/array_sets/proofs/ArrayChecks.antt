@@ -3,12 +3,11 @@ use mathlib.Core.Path.{_≡_, sym, _∙_}
 use mathlib.Core.Bool.{not}
 use mathlib.Core.List.{List, [], _∷_}
 use Prim.Native.Nat.{ℕ, _*_}
-use lib.Dec.{T}
 use lib.IntN.{ℤ}
 use lib.ListN.{length}
 use mir.Facts.{yes-eqb}
 use Rattle.refusals.specs.Outcomes.{Check, _if_, done, refused, outcome, Passes}
-use Rattle.refusals.proofs.Checks.{holds-passed, passed-all, refused-first, done-holds}
+use Rattle.refusals.proofs.Checks.{holds-passed, passed-all, refused-first}
 use Rattle.parameters.specs.Sets.{ParameterSet, parameterChecks}
 use Rattle.arrays.specs.Arrays.{full}
 use Rattle.array_sets.specs.Sets.{inSet, notInSet, arrayChecks, arrayCheck}
@@ -23,9 +22,6 @@ module _ (p : ParameterSet) (a : ArraySet) (x : List ℤ) (accepted : Passes (pa
   unfolding arrayCheck arrayChecks
   own-check =
       passed-all (parameterChecks p) _ tt accepted ∙ holds-passed 7 (full (p .N) (length x)) _ tt (yes-eqb long)
-
-  pub in-set : arrayCheck p a x ≡ done (tt {0}) → T (inSet p a x)
-  in-set e = done-holds (notInSet a) (inSet p a x) [] tt tt (sym own-check ∙ e) .0
 
   pub own-passed : {A : Type 0} (cs : List Check) (v : A) → arrayCheck p a x ≡ done (tt {0}) → outcome (own p a x ∷ cs) v ≡ outcome cs v
   own-passed cs v e = passed-all (own p a x ∷ []) cs v (sym own-check ∙ e)
