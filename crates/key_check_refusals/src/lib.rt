@@ -39,32 +39,11 @@ pub fn key_array_refusal(
     ensures { λ r. ⌜ answered r ≡ outcome (parameterChecks (setOf p) ++ keyArrayChecks (setOf p) (now (f .entry)) (now (f2 .entry)) (now (fq .entry)) (now (g .entry)) room) tt ⌝ }
 {
     let n = p.n;
-    match p.check() {
-        Answer::Done => {}
-        Answer::Refused(refusal) => {
-            return Answer::Refused(refusal);
-        }
-    }
-    if !five_full(n, f.len(), f2.len(), fq.len(), g.len(), room) {
-        return Answer::Refused(Refusal::WrongLength);
-    }
-    match check_array(p, ArraySet::F, f) {
-        Answer::Done => {}
-        Answer::Refused(refusal) => {
-            return Answer::Refused(refusal);
-        }
-    }
-    match check_array(p, ArraySet::ReducedModulo2, f2) {
-        Answer::Done => {}
-        Answer::Refused(refusal) => {
-            return Answer::Refused(refusal);
-        }
-    }
-    match check_array(p, ArraySet::ReducedModuloQ, fq) {
-        Answer::Done => {}
-        Answer::Refused(refusal) => {
-            return Answer::Refused(refusal);
-        }
-    }
-    check_array(p, ArraySet::G, g)
+    let lengths = five_full(n, f.len(), f2.len(), fq.len(), g.len(), room);
+    p.check()
+        .and(Refusal::WrongLength.when(!lengths))
+        .and(check_array(p, ArraySet::F, f))
+        .and(check_array(p, ArraySet::ReducedModulo2, f2))
+        .and(check_array(p, ArraySet::ReducedModuloQ, fq))
+        .and(check_array(p, ArraySet::G, g))
 }

@@ -8,7 +8,7 @@ use native.Mathlib.Omega.{arith}
 use borrow.Author.Tests.{not-false}
 use lib.Dec.{T, ltb}
 use mir.Facts.{and-yes, ltb-yes}
-use Rattle.refusals.specs.Outcomes.{Check, _if_, Outcome, done, refused, unless, outcome, number, written, Gives, Passes}
+use Rattle.refusals.specs.Outcomes.{Check, _if_, Outcome, done, refused, unless, outcome, first, number, written, Gives, Passes}
 
 pub refused-by : {A : Type 0} (n : ℕ) (cs : List Check) (a : A) {t : Bool} → t ≡ true → outcome (n if t ∷ cs) a ≡ refused n
 unfolding outcome
@@ -184,3 +184,27 @@ gives-refused {A} cs v old n e =
 -- by an outcome that is equal to its own
 pub gives-same : {A : Type 0} {o r : Outcome A} {n : ℕ} (old : A) {new : A} → o ≡ r → Gives r n old new → Gives o n old new
 gives-same {A} old e g = (g .0 ∙ sym (ap number e), g .1 ∙ sym (ap (λ (x : Outcome A). written x old) e))
+
+-- ---- tests one after the other
+
+first-of : {A : Type 0} (cs ds : List Check) (a : A) → first (outcome cs (tt {0})) (outcome ds a) ≡ outcome (cs ++ ds) a
+unfolding outcome
+first-of [] ds a = refl
+first-of (c ∷ cs) ds a = go (c .applies) (first-of cs ds a)
+  where
+    go : (t : Bool) → first (outcome cs (tt {0})) (outcome ds a) ≡ outcome (cs ++ ds) a → first (unless t (c .number) (outcome cs (tt {0}))) (outcome ds a) ≡ unless t (c .number) (outcome (cs ++ ds) a)
+    go true r = refl
+    go false r = r
+
+pub and-checks : {A : Type 0} (cs ds : List Check) (a : A) {o : Outcome (Unit {0})} {r : Outcome A} → o ≡ outcome cs tt → r ≡ outcome ds a → first o r ≡ outcome (cs ++ ds) a
+and-checks cs ds a {o} {r} e f = ap (λ (z : Outcome (Unit {0})). first z r) e ∙ ap (first (outcome cs (tt {0}))) f ∙ first-of cs ds a
+
+-- a check of two tests is a check of each
+module _ {A : Type 0} (a : A) where
+  pub both-tests : (n : ℕ) (s t : Bool) → outcome (n if not s ∷ n if not t ∷ []) a ≡ outcome (n if not (s && t) ∷ []) a
+  unfolding outcome
+  both-tests n true t = refl
+  both-tests n false t = refl
+
+  pub same-rest : (cs ds es : List Check) → outcome ds a ≡ outcome es a → outcome (cs ++ ds) a ≡ outcome (cs ++ es) a
+  same-rest cs ds es e = sym (first-of cs ds a) ∙ ap (first (outcome cs (tt {0}))) e ∙ first-of cs es a

@@ -26,6 +26,11 @@ unfoldable pub outcome : {A : Type 0} → List Check → A → Outcome A
 outcome [] a = done a
 outcome (c ∷ cs) a = unless (c .applies) (c .number) (outcome cs a)
 
+-- Two outcomes one after the other: a refusal of the first one stands before the other's.
+abbrev pub first : {A B : Type 0} → Outcome A → Outcome B → Outcome B
+first (done a) o = o
+first (refused n) o = refused n
+
 -- The refusal number, 0 if none.
 abbrev pub number : {A : Type 0} → Outcome A → ℕ
 number (done a) = 0

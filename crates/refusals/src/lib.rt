@@ -1,7 +1,8 @@
 // Document 01's refusals, each with its number. Which condition is tested where, and in what order, is in the crates of the calls.
 ghost use mathlib.Core.Path.{_≡_};
+ghost use mathlib.Core.List.{[], _∷_};
 ghost use Rattle.refusals.specs.Numbers.{numberOf, answered};
-ghost use Rattle.refusals.specs.Outcomes.{number};
+ghost use Rattle.refusals.specs.Outcomes.{number, outcome, first, _if_};
 
 pub enum Refusal {
     CoefficientCountOutOfRange,
@@ -58,6 +59,16 @@ impl Refusal {
             Refusal::ValueOutOfRange => 22,
         }
     }
+
+    // One check: this refusal, where its condition applies.
+    pub fn when(self, applies: bool) -> Answer
+        ensures { λ r. ⌜ answered r ≡ outcome (numberOf self if applies ∷ []) tt ⌝ }
+    {
+        if applies {
+            return Answer::Refused(self);
+        }
+        Answer::Done
+    }
 }
 
 // What a call answers that writes its result to lent outputs.
@@ -74,6 +85,16 @@ impl Answer {
         match self {
             Answer::Done => 0,
             Answer::Refused(refusal) => refusal.number(),
+        }
+    }
+
+    // The first refusal of two answers: this one's stands before the next one's.
+    pub fn and(self, next: Answer) -> Answer
+        ensures { λ r. ⌜ answered r ≡ first (answered self) (answered next) ⌝ }
+    {
+        match self {
+            Answer::Done => next,
+            Answer::Refused(refusal) => Answer::Refused(refusal),
         }
     }
 }

@@ -17,29 +17,11 @@ pub fn sealing_refusal(p: Parameters, h: &[i32], phi: &[i32], message: &[u8], ro
     ensures { λ r. ⌜ answered r ≡ outcome (parameterChecks (setOf p) ++ sealingChecks (setOf p) (now (h .entry)) (now (phi .entry)) (now (message .entry)) room) tt ⌝ }
 {
     let n = p.n;
-    match p.check() {
-        Answer::Done => {}
-        Answer::Refused(refusal) => {
-            return Answer::Refused(refusal);
-        }
-    }
-    if !packing::full_with_message(n, message.len(), h.len(), phi.len(), room) {
-        return Answer::Refused(Refusal::WrongLength);
-    }
-    match check_array(p, ArraySet::ReducedModuloQ, h) {
-        Answer::Done => {}
-        Answer::Refused(refusal) => {
-            return Answer::Refused(refusal);
-        }
-    }
-    match check_array(p, ArraySet::Phi, phi) {
-        Answer::Done => {}
-        Answer::Refused(refusal) => {
-            return Answer::Refused(refusal);
-        }
-    }
-    if packing::spare_bit_set(n, message) {
-        return Answer::Refused(Refusal::SpareBitSet);
-    }
-    Answer::Done
+    let lengths = packing::full_with_message(n, message.len(), h.len(), phi.len(), room);
+    let spare = packing::spare_bit_set(n, message);
+    p.check()
+        .and(Refusal::WrongLength.when(!lengths))
+        .and(check_array(p, ArraySet::ReducedModuloQ, h))
+        .and(check_array(p, ArraySet::Phi, phi))
+        .and(Refusal::SpareBitSet.when(spare))
 }

@@ -17,26 +17,10 @@ pub fn opening_refusal(p: Parameters, f: &[i32], f2: &[i32], e: &[i32], room: us
     ensures { λ r. ⌜ answered r ≡ outcome (parameterChecks (setOf p) ++ openingChecks (setOf p) (now (f .entry)) (now (f2 .entry)) (now (e .entry)) room) tt ⌝ }
 {
     let n = p.n;
-    match p.check() {
-        Answer::Done => {}
-        Answer::Refused(refusal) => {
-            return Answer::Refused(refusal);
-        }
-    }
-    if !packing::full_with_message(n, room, f.len(), f2.len(), e.len()) {
-        return Answer::Refused(Refusal::WrongLength);
-    }
-    match check_array(p, ArraySet::F, f) {
-        Answer::Done => {}
-        Answer::Refused(refusal) => {
-            return Answer::Refused(refusal);
-        }
-    }
-    match check_array(p, ArraySet::ReducedModulo2, f2) {
-        Answer::Done => {}
-        Answer::Refused(refusal) => {
-            return Answer::Refused(refusal);
-        }
-    }
-    check_array(p, ArraySet::ReducedModuloQ, e)
+    let lengths = packing::full_with_message(n, room, f.len(), f2.len(), e.len());
+    p.check()
+        .and(Refusal::WrongLength.when(!lengths))
+        .and(check_array(p, ArraySet::F, f))
+        .and(check_array(p, ArraySet::ReducedModulo2, f2))
+        .and(check_array(p, ArraySet::ReducedModuloQ, e))
 }

@@ -1,146 +1,58 @@
 -- `key_array_refusal` meets its contract: each test is the definition's, in its order.
-use mathlib.Core.Path.{_≡_, sym, _∙_, ap}
-use mathlib.Core.Bool.{not, _&&_}
-use mathlib.Core.List.{List, [], _∷_, _++_}
+use mathlib.Core.Path.{_≡_, _∙_}
+use mathlib.Core.Bool.{Bool, _&&_}
+use mathlib.Core.List.{[], _∷_}
 use Prim.Native.Nat.{_*_}
 use borrow.Author.Needs.{needs}
+use lib.Dec.{T}
 use lib.ListN.{length}
 use Rattle.integers.proofs.Tests.{are-equal-5}
-use Rattle.refusals.specs.Outcomes.{Check, _if_, done, outcome, Passes}
-use Rattle.refusals.specs.Numbers.{answered}
-use Rattle.refusals.proofs.Checks.{holds, call-passed, call-refused, passed-all, refused-first}
-use Rattle.parameters.specs.Sets.{ParameterSet, setOf, parameterChecks}
+use Rattle.parameters.specs.Sets.{ParameterSet, setOf}
 use Rattle.arrays.specs.Arrays.{full}
-use Rattle.array_sets.specs.Sets.{arrayCheck}
 use Rattle.array_sets.specs.declared.ArraySet.the-variants.{F, G, ReducedModulo2, ReducedModuloQ}
-use Rattle.array_sets.proofs.ArrayChecks.{own, own-check, own-passed, own-refused}
+use Rattle.array_sets.proofs.ArrayChecks.{own, and-lengths, and-array}
 use Rattle.key_check_refusals.proofs.key_array_refusal.Statement.{statement}
 use Rattle.key_check_refusals.proofs.key_array_refusal.Tie as tie
 
 abbrev P : tie.Start → ParameterSet
 P s = setOf (s .args .p)
 
--- the checks from each of them on
-abbrev from-9 : tie.Start → List Check
-from-9 s = own (P s) G (s .args .g .now) ∷ []
+abbrev lengths : tie.Start → Bool
+lengths s =
+    full (P s .N) (length (s .args .f .now)) && (full (P s .N) (length (s .args .f2 .now)) && (full (P s .N) (length (s .args .fq .now)) && (full (P s .N) (length (s .args .g .now)) && full (P s .N) (s .args .room))))
 
-abbrev from-12 : tie.Start → List Check
-from-12 s = own (P s) ReducedModuloQ (s .args .fq .now) ∷ from-9 s
-
-abbrev from-11 : tie.Start → List Check
-from-11 s = own (P s) ReducedModulo2 (s .args .f2 .now) ∷ from-12 s
-
-abbrev from-8 : tie.Start → List Check
-from-8 s = own (P s) F (s .args .f .now) ∷ from-11 s
-
-abbrev from-7 : tie.Start → List Check
-from-7 s =
-    7 if not (full (P s .N) (length (s .args .f .now)) && (full (P s .N) (length (s .args .f2 .now)) && (full (P s .N) (length (s .args .fq .now)) && (full (P s .N) (length (s .args .g .now)) && full (P s .N) (s .args .room))))) ∷ from-8 s
-
-abbrev from-1 : tie.Start → List Check
-from-1 s = parameterChecks (P s) ++ from-7 s
-
--- the function's start, from each place on the way
-abbrev start : tie.After-enum-told → tie.Start
-start c = c .before .before .before
-
-abbrev start-7 : tie.Else1 → tie.Start
-start-7 c = start (c .before .before)
-
-abbrev start-8 : tie.After-enum-told2 → tie.Start
-start-8 c = start-7 (c .before .before .before)
-
-abbrev start-11 : tie.After-enum-told3 → tie.Start
-start-11 c = start-8 (c .before .before .before)
-
-abbrev start-12 : tie.After-enum-told4 → tie.Start
-start-12 c = start-11 (c .before .before .before)
-
--- what the tests give
-accepted : (c : tie.Else1) → Passes (parameterChecks (P (start-7 c)))
-accepted c = let e = c .before .before in sym (e .before .before .check .ensures) ∙ ap answered (e .enum-told .given .1)
-
-lengths : (c : tie.Else1) → let s = start-7 c in (length (s .args .f .now) ≡ 2 * P s .N) × (length (s .args .f2 .now) ≡ 2 * P s .N) × (length (s .args .fq .now) ≡ 2 * P s .N) × (length (s .args .g .now) ≡ 2 * P s .N) × (s .args .room ≡ 2 * P s .N)
-lengths c = are-equal-5 _ _ _ _ _ _ _ _ _ _ (holds (c .before .five-full .ensures) (c .if1 .left))
-
-f-passed : (c : tie.After-enum-told2) → let s = start-8 c in arrayCheck (P s) F (s .args .f .now) ≡ done (tt {0})
-f-passed c = sym (c .before .before .check-array .ensures) ∙ ap answered (c .enum-told2 .given .1)
-
-f2-passed : (c : tie.After-enum-told3) → let s = start-11 c in arrayCheck (P s) ReducedModulo2 (s .args .f2 .now) ≡ done (tt {0})
-f2-passed c = sym (c .before .before .check-array2 .ensures) ∙ ap answered (c .enum-told3 .given .1)
-
-fq-passed : (c : tie.After-enum-told4) → let s = start-12 c in arrayCheck (P s) ReducedModuloQ (s .args .fq .now) ≡ done (tt {0})
-fq-passed c = sym (c .before .before .check-array3 .ensures) ∙ ap answered (c .enum-told4 .given .1)
-
--- the checks that have been passed
-after-6 : (c : tie.After-enum-told) → outcome (from-1 (start c)) (tt {0}) ≡ outcome (from-7 (start c)) (tt {0})
-after-6 c = passed-all (parameterChecks (P (start c))) (from-7 (start c)) tt (sym (c .before .before .check .ensures) ∙ ap answered (c .enum-told .given .1))
-
-after-7 : (c : tie.Else1) → outcome (from-1 (start-7 c)) (tt {0}) ≡ outcome (from-8 (start-7 c)) (tt {0})
-after-7 c = after-6 (c .before .before) ∙ call-passed 7 _ tt (c .before .five-full .ensures) (c .if1 .left)
-
-after-8 : (c : tie.After-enum-told2) → outcome (from-1 (start-8 c)) (tt {0}) ≡ outcome (from-11 (start-8 c)) (tt {0})
-after-8 c =
-    let e = c .before .before .before in
-    let s = start-8 c in
-    after-7 e ∙ own-passed (P s) F (s .args .f .now) (accepted e) (lengths e .0) (from-11 s) tt (f-passed c)
-
-after-11 : (c : tie.After-enum-told3) → outcome (from-1 (start-11 c)) (tt {0}) ≡ outcome (from-12 (start-11 c)) (tt {0})
-after-11 c =
-    let t = c .before .before .before in
-    let e = t .before .before .before in
-    let s = start-11 c in
-    after-8 t ∙ own-passed (P s) ReducedModulo2 (s .args .f2 .now) (accepted e) (lengths e .1) (from-12 s) tt (f2-passed c)
-
-after-12 : (c : tie.After-enum-told4) → outcome (from-1 (start-12 c)) (tt {0}) ≡ outcome (from-9 (start-12 c)) (tt {0})
-after-12 c =
-    let t = c .before .before .before in
-    let e = t .before .before .before .before .before .before in
-    let s = start-12 c in
-    after-11 t ∙ own-passed (P s) ReducedModuloQ (s .args .fq .now) (accepted e) (lengths e .2) (from-9 s) tt (fq-passed c)
+asked : (s : tie.Start) → T (lengths s) → (length (s .args .f .now) ≡ 2 * P s .N) × (length (s .args .f2 .now) ≡ 2 * P s .N) × (length (s .args .fq .now) ≡ 2 * P s .N) × (length (s .args .g .now) ≡ 2 * P s .N) × (s .args .room ≡ 2 * P s .N)
+asked s t = are-equal-5 _ _ _ _ _ _ _ _ _ _ t
 
 pub key-array-refusal-spec : {M : Type 1} → statement M
 key-array-refusal-spec =
     tie.close
     (tie.spec
     (λ c κs. search needs)
-    (λ c. search needs)
-    (λ c. search needs)
-    (λ c.
-    let r = c .before .before .before in
-    let s = r .before in
-    sym (refused-first (parameterChecks (P s)) (from-7 s) tt _ (sym (r .check .ensures) ∙ ap answered (c .before .refusal .given .1))))
     (λ c κs. search needs)
-    (λ c. sym (after-6 (c .before .before) ∙ call-refused 7 _ tt (c .before .five-full .ensures) (c .if1 .taken)))
     (λ c κs. search needs)
-    (λ c. search needs)
-    (λ c. search needs)
-    (λ c.
-    let r = c .before .before .before in
-    let e = r .before in
-    let s = start-7 e in
-    sym (after-7 e ∙ own-refused (P s) F (s .args .f .now) (accepted e) (lengths e .0) (from-11 s) tt _ (sym (r .check-array .ensures) ∙ ap answered (c .before .refusal2 .given .1))))
     (λ c κs. search needs)
-    (λ c. search needs)
-    (λ c. search needs)
-    (λ c.
-    let r = c .before .before .before in
-    let t = r .before in
-    let e = t .before .before .before in
-    let s = start-7 e in
-    sym (after-8 t ∙ own-refused (P s) ReducedModulo2 (s .args .f2 .now) (accepted e) (lengths e .1) (from-12 s) tt _ (sym (r .check-array2 .ensures) ∙ ap answered (c .before .refusal3 .given .1))))
     (λ c κs. search needs)
-    (λ c. search needs)
-    (λ c. search needs)
-    (λ c.
-    let r = c .before .before .before in
-    let t = r .before in
-    let e = t .before .before .before .before .before .before in
-    let s = start-7 e in
-    sym (after-11 t ∙ own-refused (P s) ReducedModuloQ (s .args .fq .now) (accepted e) (lengths e .2) (from-9 s) tt _ (sym (r .check-array3 .ensures) ∙ ap answered (c .before .refusal4 .given .1))))
+    (λ c κs. search needs)
+    (λ c κs. search needs)
+    (λ c κs. search needs)
+    (λ c κs. search needs)
+    (λ c κs. search needs)
+    (λ c κs. search needs)
     (λ c κs. search needs)
     (λ c.
-    let t = c .before in
-    let e = t .before .before .before .before .before .before .before .before .before in
-    let s = start-12 t in
-    c .check-array4 .ensures ∙ own-check (P s) G (s .args .g .now) (accepted e) (lengths e .3) ∙ sym (after-12 t)))
+    let c12 = c .before .before in
+    let c11 = c12 .before .before in
+    let c8 = c11 .before .before in
+    let c7 = c8 .before .before in
+    let s = c7 .before .before .before .before in
+    let p = P s in
+    let t = lengths s in
+    let x8 = own p F (s .args .f .now) in
+    let x11 = own p ReducedModulo2 (s .args .f2 .now) in
+    let x12 = own p ReducedModuloQ (s .args .fq .now) in
+    let o7 = c7 .and .ensures ∙ and-lengths p t (c7 .before .before .before .five-full .ensures) (c7 .before .before .check .ensures) (c7 .before .when .ensures) in
+    let o8 = c8 .and2 .ensures ∙ and-array p t F (s .args .f .now) (λ h. asked s h .0) [] o7 (c8 .before .check-array .ensures) in
+    let o11 = c11 .and3 .ensures ∙ and-array p t ReducedModulo2 (s .args .f2 .now) (λ h. asked s h .1) (x8 ∷ []) o8 (c11 .before .check-array2 .ensures) in
+    let o12 = c12 .and4 .ensures ∙ and-array p t ReducedModuloQ (s .args .fq .now) (λ h. asked s h .2) (x8 ∷ x11 ∷ []) o11 (c12 .before .check-array3 .ensures) in
+    c .and5 .ensures ∙ and-array p t G (s .args .g .now) (λ h. asked s h .3) (x8 ∷ x11 ∷ x12 ∷ []) o12 (c .before .check-array4 .ensures)))
