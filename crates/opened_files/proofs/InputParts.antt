@@ -1,10 +1,9 @@
 -- The input in its two parts: the first file ends where its own head says, or with the input, and its head is the input's.
-use mathlib.Core.Path.{_≡_, sym, _∙_, ap}
+use mathlib.Core.Path.{_≡_, _∙_}
 use mathlib.Core.List.{List}
 use Prim.Native.Nat.{ℕ, _-_, min, _≤_}
-use native.Mathlib.Omega.{arith, min-cases}
-use lib.ListN.{length, take, drop, drop-of-length-le}
-use lib.Seq.{drop-length}
+use native.Mathlib.Omega.{arith}
+use lib.ListN.{length, take, drop}
 use Rattle.refusals.specs.Outcomes.{done, refused, outcome}
 use Rattle.refusals.specs.Numbers.{numberOf}
 use Rattle.refusals.specs.declared.Refusal.{Refusal}
@@ -17,15 +16,10 @@ use Rattle.files.proofs.Lists.{rest-taken}
 use Rattle.files.proofs.Passed.{file-bytes}
 use Rattle.opened_files.specs.Pairs.{firstLength, fileChecks, openingPair, openingFiles}
 use Rattle.opened_files.proofs.FirstBytes.{head-of-part}
-use Rattle.opened_files.proofs.Parts.{end-taken}
+use Rattle.opened_arrays.proofs.Parts.{end-taken, end-dropped}
 use Rattle.opened_files.proofs.ReadFiles.{head-refused, head-is}
 
--- ---- where the parts meet
-
-end-dropped : (n : ℕ) (input : List ℕ) → drop (min n (length input)) input ≡ drop n input
-end-dropped n input =
-    min-cases n (length input) _ (λ l e. ap (λ (k : ℕ). drop k input) e) (λ l e. ap (λ (k : ℕ). drop k input) e ∙ drop-length input ∙ sym (drop-of-length-le input l))
-
+-- the head is within the first part
 head-inside : (kind N : ℕ) → headLength ≤ fileBytes kind N
 head-inside kind N = omega (arith, file-bytes kind N)
 

@@ -1,8 +1,6 @@
-pub mod Answers
 pub mod FirstBytes
 pub mod InputParts
 pub mod JoinedArrays
 pub mod KeptArrays
-pub mod Parts
 pub mod ReadFiles
 pub mod ReadKeys

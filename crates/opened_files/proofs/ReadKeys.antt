@@ -31,8 +31,9 @@ use Rattle.array_sets.proofs.ArrayChecks.{own}
 use Rattle.files.proofs.SetChecks.{first-array, next-array}
 use Rattle.stored_keys.specs.Keys.{storedKeyCheck}
 use Rattle.opened_files.specs.Pairs.{inverseChecks, pairChecks, messageOf}
-use Rattle.opened_files.specs.Steps.{KeyRead, after, openingArrays, openingWith}
-use Rattle.opened_files.proofs.Answers.{answer-by-number, after-checks, after-done}
+use Rattle.opened_files.specs.Steps.{KeyRead}
+use Rattle.opened_arrays.specs.Openings.{after, openingArrays, openingWith}
+use Rattle.opened_arrays.proofs.Answers.{answer-by-number, after-checks, after-done}
 
 -- two sets that are the same have the same ring
 same-ring : (p p′ : ParameterSet) → T (sameSet p p′) → (p .N ≡ p′ .N) × (p .q ≡ p′ .q)

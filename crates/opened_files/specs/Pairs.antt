@@ -1,12 +1,10 @@
 -- A private file and a sealed one, opened (document 01, 'Files' and 'Where each number is checked').
-use mathlib.Core.Path.{_≡_}
 use mathlib.Core.Bool.{not}
 use mathlib.Core.List.{List, _∷_, _++_}
 use Prim.Native.Nat.{ℕ}
 use lib.IntN.{ℤ}
-use lib.ListN.{length, take, drop}
-use Rattle.refusals.specs.Outcomes.{Check, Outcome, done, refused, outcome, _if_}
-use Rattle.refusals.specs.Numbers.{numberOf}
+use lib.ListN.{take, drop}
+use Rattle.refusals.specs.Outcomes.{Check, Outcome, outcome, _if_}
 use Rattle.parameters.specs.Sets.{ParameterSet}
 use Rattle.parameter_comparison.specs.Comparison.{sameSet}
 use Rattle.polynomials.specs.Polynomials.{coefficient}
@@ -16,8 +14,6 @@ use Rattle.etru.specs.Calls as etru
 use Rattle.heads.specs.Heads.{headOf}
 use Rattle.files.specs.Files.{fileNumbers, fileBytes, numbersOf, arrayAt}
 use Rattle.files.specs.Calls.{readingChecks}
-use Rattle.opened_files.specs.declared.Opened.{Opened}
-use Rattle.opened_files.specs.declared.Opened.the-variants.{Message, Refused}
 
 -- "reads the first file as far as its own head says, then all the rest as the second"
 unfoldable pub firstLength : List ℕ → ℕ
@@ -46,25 +42,3 @@ openingPair first second =
 
 unfoldable pub openingFiles : List ℕ → Outcome (List ℕ)
 openingFiles input = openingPair (take (firstLength input) input) (drop (firstLength input) input)
-
--- An answer as an outcome: a number of bytes, or a refusal.
-abbrev pub answerOf : Opened → Outcome ℕ
-answerOf (Message n) = done n
-answerOf (Refused r) = refused (numberOf r)
-
--- The answer that an outcome calls for.
-abbrev pub lengthOf : Outcome (List ℕ) → Outcome ℕ
-lengthOf (done m) = done (length m)
-lengthOf (refused n) = refused n
-
--- What lent bytes hold after a call, that held `old` before: a message goes over the first of them, and a refusal writes to none.
-abbrev pub over : Outcome (List ℕ) → List ℕ → List ℕ
-over (done m) old = m ++ drop (length m) old
-over (refused n) old = old
-
--- A call that answered `r`, and left `new` in lent bytes that held `old`, has given this outcome.
-pub record GivesMessage (o : Outcome (List ℕ)) (r : Opened) (old new : List ℕ) : Type 0 where
-  -- It answers the length of the message, or the refusal.
-  pub answer : answerOf r ≡ lengthOf o
-  -- It leaves the message at the front, and the bytes behind it as they came; after a refusal all of them are as they came.
-  pub left : new ≡ over o old

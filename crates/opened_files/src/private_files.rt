@@ -6,11 +6,11 @@ ghost use Rattle.refusals.specs.Outcomes.{done};
 ghost use Rattle.parameters.specs.Sets.{setOf};
 ghost use Rattle.files.specs.Files.{fileBytes};
 ghost use Rattle.head_reading.specs.Calls.{readingHead};
-ghost use Rattle.opened_files.specs.Pairs.{openingPair, openingFiles, GivesMessage};
-ghost use Rattle.opened_files.specs.Steps.{Room};
-use crate::Opened;
-use crate::least;
+ghost use Rattle.opened_arrays.specs.Answers.{GivesMessage};
+ghost use Rattle.opened_files.specs.Pairs.{openingPair, openingFiles};
 use crate::sealed_files::open_sealed;
+use opened_arrays::Opened;
+use opened_arrays::least;
 use parameters::Parameters;
 use refusals::Answer;
 
@@ -20,9 +20,9 @@ fn open_private_in(
     first: &[u8],
     second: &[u8],
     numbers: &mut [i32],
-    message: &mut [u8],
+    message: &mut [u8; 256],
 ) -> Opened
-    requires { ⌜ (readingHead 2 (now first) ≡ done (setOf p)) × Room (now numbers) (now message) ⌝ }
+    requires { ⌜ (readingHead 2 (now first) ≡ done (setOf p)) × (length (now numbers) ≡ 8192) ⌝ }
     ensures { λ r. ⌜ GivesMessage (openingPair (now (first .entry)) (now (second .entry))) r (now (message .entry)) (now (message .exit)) ⌝ }
 {
     let n = p.n;
@@ -40,8 +40,8 @@ fn first_end(n: u32, all: usize) -> usize
     least(files::file_bytes(heads::kinds::PRIVATE, n), all)
 }
 
-pub(crate) fn open_private(p: Parameters, input: &[u8], message: &mut [u8]) -> Opened
-    requires { ⌜ (readingHead 2 (now input) ≡ done (setOf p)) × (length (now message) ≡ 256) ⌝ }
+pub(crate) fn open_private(p: Parameters, input: &[u8], message: &mut [u8; 256]) -> Opened
+    requires { ⌜ readingHead 2 (now input) ≡ done (setOf p) ⌝ }
     ensures { λ r. ⌜ GivesMessage (openingFiles (now (input .entry))) r (now (message .entry)) (now (message .exit)) ⌝ }
 {
     let n = p.n;

@@ -6,10 +6,11 @@ ghost use Rattle.refusals.specs.Outcomes.{done, outcome, number};
 ghost use Rattle.refusals.specs.Numbers.{answered};
 ghost use Rattle.parameters.specs.Sets.{setOf};
 ghost use Rattle.head_reading.specs.Calls.{readingHead};
-ghost use Rattle.opened_files.specs.Pairs.{inverseChecks, GivesMessage};
-ghost use Rattle.opened_files.specs.Steps.{KeyRead, keyIn, Room, SealedRead, openingSealed};
-use crate::Opened;
-use crate::messages::open_pair;
+ghost use Rattle.opened_arrays.specs.Answers.{GivesMessage};
+ghost use Rattle.opened_files.specs.Pairs.{inverseChecks};
+ghost use Rattle.opened_files.specs.Steps.{KeyRead, keyIn, SealedRead, openingSealed};
+use opened_arrays::Opened;
+use opened_arrays::open_pair;
 use parameters::Made;
 use parameters::Parameters;
 use refusals::Answer;
@@ -31,9 +32,9 @@ fn open_sealed_in(
     sealed: Parameters,
     file: &[u8],
     numbers: &mut [i32],
-    message: &mut [u8],
+    message: &mut [u8; 256],
 ) -> Opened
-    requires { ⌜ KeyRead (setOf p) (keyIn (setOf p) (now numbers)) × Room (now numbers) (now message) ⌝ }
+    requires { ⌜ KeyRead (setOf p) (keyIn (setOf p) (now numbers)) × (length (now numbers) ≡ 8192) ⌝ }
     requires { ⌜ answered key ≡ outcome (inverseChecks (setOf p) (keyIn (setOf p) (now numbers))) tt ⌝ }
     requires { ⌜ readingHead 3 (now file) ≡ done (setOf sealed) ⌝ }
     ensures { λ r. ⌜ GivesMessage (openingSealed (setOf p) (keyIn (setOf p) (now (numbers .entry))) (now (file .entry))) r (now (message .entry)) (now (message .exit)) ⌝ }
@@ -51,9 +52,9 @@ pub(crate) fn open_sealed(
     p: Parameters,
     file: &[u8],
     numbers: &mut [i32],
-    message: &mut [u8],
+    message: &mut [u8; 256],
 ) -> Opened
-    requires { ⌜ KeyRead (setOf p) (keyIn (setOf p) (now numbers)) × Room (now numbers) (now message) ⌝ }
+    requires { ⌜ KeyRead (setOf p) (keyIn (setOf p) (now numbers)) × (length (now numbers) ≡ 8192) ⌝ }
     ensures { λ r. ⌜ GivesMessage (openingSealed (setOf p) (keyIn (setOf p) (now (numbers .entry))) (now (file .entry))) r (now (message .entry)) (now (message .exit)) ⌝ }
 {
     let n = p.n;

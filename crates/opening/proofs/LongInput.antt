@@ -1,5 +1,5 @@
 -- Two files have at most 20,512 bytes, so what follows the first 20,513 bytes of an input plays no part in its line.
-use mathlib.Core.Path.{_≡_, refl, sym, _∙_, ap}
+use mathlib.Core.Path.{_≡_, sym, _∙_, ap}
 use mathlib.Core.Bool.{_&&_}
 use mathlib.Core.List.{List, _++_, append-assoc}
 use Prim.Native.Nat.{ℕ, _≤_, _<_}
@@ -8,8 +8,8 @@ use borrow.Author.Tests.{ne-eqb}
 use lib.Dec.{eqb}
 use lib.ListN.{length, take, drop, length-drop, length-append, take-append-drop}
 use lib.Seq.{take-take, length-take-le, take-append-le, drop-append-le}
-use Rattle.refusals.specs.Outcomes.{Check, Outcome, done, refused, outcome}
-use Rattle.refusals.proofs.Checks.{passed-all, refused-first, fails-refused}
+use Rattle.refusals.specs.Outcomes.{Check, refused, outcome}
+use Rattle.refusals.proofs.Checks.{fails-refused}
 use Rattle.parameters.specs.Sets.{parameterChecks}
 use Rattle.parameters.proofs.AcceptedParameters.{accepted-parameters}
 use Rattle.heads.specs.Kinds.{arraysOf}
@@ -19,20 +19,12 @@ use Rattle.head_reading.specs.Calls.{headChecks}
 use Rattle.files.specs.Calls.{contentChecks, readingChecks}
 use Rattle.files.proofs.Passed.{file-bytes}
 use Rattle.files.proofs.Bounds.{numbers-few}
+use Rattle.opened_arrays.proofs.Answers.{same-first}
 use Rattle.opened_files.proofs.FirstBytes.{head-of-start, checks-of-start}
 use Rattle.lines.specs.Lines.{lineOf}
 use Rattle.opened_files.specs.Pairs.{firstLength, fileChecks, openingPair, openingFiles}
 use Rattle.opening.specs.Program.{openingLine}
 use Rattle.opening.specs.Promises.{Long-input-line}
-
--- ---- outcomes that begin with the same checks are the same, if they are so where those are passed
-
-same-first : {A : Type 0} (cs ds ds′ : List Check) (a a′ : A) → (outcome cs (tt {0}) ≡ done (tt {0}) → outcome ds a ≡ outcome ds′ a′) → outcome (cs ++ ds) a ≡ outcome (cs ++ ds′) a′
-same-first cs ds ds′ a a′ h = go (outcome cs (tt {0})) refl
-  where
-    go : (o : Outcome (Unit {0})) → outcome cs (tt {0}) ≡ o → outcome (cs ++ ds) a ≡ outcome (cs ++ ds′) a′
-    go (done _) e = passed-all cs ds a e ∙ h e ∙ sym (passed-all cs ds′ a′ e)
-    go (refused n) e = refused-first cs ds a n e ∙ sym (refused-first cs ds′ a′ n e)
 
 -- ---- two files with the same head: they are refused alike, or N is at most 1,024 and the contents decide
 

@@ -6,9 +6,9 @@ use lib.Dec.{eqb}
 use lib.ListN.{length, take, drop}
 use Rattle.refusals.specs.Outcomes.{Check, Outcome, done, refused, outcome, _if_}
 use Rattle.refusals.specs.Numbers.{numberOf}
+use Rattle.opened_arrays.specs.declared.Opened.{Opened}
+use Rattle.opened_arrays.specs.declared.Opened.the-variants.{Message, Refused}
 use Rattle.opened_files.specs.Pairs.{openingFiles}
-use Rattle.opened_files.specs.declared.Opened.{Opened}
-use Rattle.opened_files.specs.declared.Opened.the-variants.{Message, Refused}
 use Rattle.lines.specs.Lines.{lineOf}
 
 -- The line that is printed.

@@ -8,9 +8,9 @@ use lib.Seq.{take-at}
 use Rattle.refusals.specs.Outcomes.{Outcome, done, refused}
 use Rattle.refusals.proofs.Checks.{never-done, same-done}
 use Rattle.lines.specs.Lines.{lineOf}
-use Rattle.opened_files.specs.Pairs.{GivesMessage}
-use Rattle.opened_files.specs.declared.Opened.{Opened}
-use Rattle.opened_files.specs.declared.Opened.the-variants.{Message, Refused}
+use Rattle.opened_arrays.specs.Answers.{GivesMessage}
+use Rattle.opened_arrays.specs.declared.Opened.{Opened}
+use Rattle.opened_arrays.specs.declared.Opened.the-variants.{Message, Refused}
 use Rattle.opening.specs.Program.{openingLine, openedIs}
 use Rattle.opening.proofs.write_line_in.Statement.{statement}
 use Rattle.opening.proofs.write_line_in.Tie as tie

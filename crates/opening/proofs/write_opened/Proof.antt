@@ -11,8 +11,8 @@ use Rattle.refusals.specs.Outcomes.{refused, done}
 use Rattle.refusals.specs.Numbers.{numberOf}
 use Rattle.lines.specs.Lines.{lineOf, Writes}
 use Rattle.lines.proofs.Written.{message-length, refusal-length, written}
-use Rattle.opened_files.specs.declared.Opened.{Opened}
-use Rattle.opened_files.proofs.Parts.{end-taken}
+use Rattle.opened_arrays.specs.declared.Opened.{Opened}
+use Rattle.opened_arrays.proofs.Parts.{end-taken}
 use Rattle.opening.specs.Program.{openedIs}
 use Rattle.opening.proofs.write_opened.Statement.{statement}
 use Rattle.opening.proofs.write_opened.Tie as tie

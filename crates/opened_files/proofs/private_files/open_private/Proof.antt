@@ -5,7 +5,7 @@ use borrow.Author.Needs.{needs}
 use lib.ListN.{length, take}
 use lib.Seq.{length-take-le}
 use Rattle.parameters.specs.Sets.{setOf}
-use Rattle.opened_files.proofs.Answers.{gives-as}
+use Rattle.opened_arrays.proofs.Answers.{gives-as}
 use Rattle.opened_files.proofs.InputParts.{first-head, input-parted}
 use Rattle.opened_files.proofs.private_files.open_private.Statement.{statement}
 use Rattle.opened_files.proofs.private_files.open_private.Tie as tie
@@ -22,7 +22,7 @@ open-private-spec =
     (λ c κs. search needs)
     (λ c.
     let f = c .before .before in
-    sym (length-take-le _ (f .before .before .before .args .input .now) (omega (arith, f .first-end .ensures))))
+    sym (length-take-le _ (f .before .before .args .input .now) (omega (arith, f .first-end .ensures))))
     (λ c. omega (arith, c .before .before .first-end .ensures))
     (λ c. omega (arith, c .before .before .first-end .ensures))
     (λ c. search needs)
@@ -31,11 +31,10 @@ open-private-spec =
     (λ c κs.
     let a = c .before .before .before .before in
     let e = a .before .first-end in
-    let s = a .before .before .before .before in
-    (first-head (s .args .input .now) (setOf (s .args .p)) (e .result) (s .pre .0) (e .ensures), (all a, s .pre .1)))
-    (λ c. search needs)
+    let s = a .before .before .before in
+    (first-head (s .args .input .now) (setOf (s .args .p)) (e .result) (s .pre) (e .ensures), all a))
     (λ c.
-    let o = c .before .before .before in
+    let o = c .before in
     let f = o .before .before .before .before .before .before in
-    let s = f .before .before .before in
-    gives-as (input-parted (s .args .input .now) (setOf (s .args .p)) (f .first-end .result) (s .pre .0) (f .first-end .ensures)) (o .open-private-in .ensures)))
+    let s = f .before .before in
+    gives-as (input-parted (s .args .input .now) (setOf (s .args .p)) (f .first-end .result) (s .pre) (f .first-end .ensures)) (o .open-private-in .ensures)))

@@ -20,7 +20,7 @@ use Rattle.files.specs.Calls.{setChecks}
 use Rattle.heads.proofs.ArraysOfKinds.{sealed-arrays}
 use Rattle.opened_files.specs.Pairs.{fileChecks, pairChecks, messageOf}
 use Rattle.opened_files.specs.Steps.{openingSealed, keyIn}
-use Rattle.opened_files.proofs.Answers.{gives-as, gives-refusal}
+use Rattle.opened_arrays.proofs.Answers.{gives-as, gives-refusal}
 use Rattle.opened_files.proofs.JoinedArrays.{last-check}
 use Rattle.opened_files.proofs.KeptArrays.{array-kept}
 use Rattle.opened_files.proofs.ReadFiles.{Read, N-small, file-read, file-refused}
@@ -57,14 +57,14 @@ abbrev held : tie.After-read-sealed → List ℤ
 held c = c .read-sealed .last .1 .1 .1 .0
 
 held-long : (c : tie.After-read-sealed) → length (held c) ≡ 8192
-held-long c = omega (arith, c .before .before .before .before .pre .0 .1 .0)
+held-long c = omega (arith, c .before .before .before .pre .0 .1)
 
 abbrev new : tie.After-read-sealed → List ℤ
-new c = let s = c .before .before .before .before in take (count s) (drop (from s) (held c))
+new c = let s = c .before .before .before in take (count s) (drop (from s) (held c))
 
-new-long : (c : tie.After-read-sealed) → length (new c) ≡ 2 * c .before .before .before .before .args .sealed .n
+new-long : (c : tie.After-read-sealed) → length (new c) ≡ 2 * c .before .before .before .args .sealed .n
 new-long c =
-    let s = c .before .before .before .before in
+    let s = c .before .before .before in
     length-take-le (count s) (drop (from s) (held c)) (omega (arith, few s, few-sealed s, held-long c, length-drop (from s) (held c)))
 
 private-numbers : (N : ℕ) → fileNumbers 2 N ≡ 8 * N
@@ -72,21 +72,21 @@ unfolding fileNumbers arraysOf
 private-numbers N = omega arith
 
 -- f and F2 are as they were
-kept : (c : tie.After-read-sealed) (k : ℕ) → k ≤ 1 → let s = c .before .before .before .before in arrayAt (P s) k (held c) ≡ arrayAt (P s) k (keyIn (P s) (s .args .numbers .now))
+kept : (c : tie.After-read-sealed) (k : ℕ) → k ≤ 1 → let s = c .before .before .before in arrayAt (P s) k (held c) ≡ arrayAt (P s) k (keyIn (P s) (s .args .numbers .now))
 kept c k h =
-    let s = c .before .before .before .before in
+    let s = c .before .before .before in
     let rest = drop (from s) (held c) in
     ap (arrayAt (P s) k) (sym (take-append-drop (from s) (held c)) ∙ ap (λ (x : List ℤ). x ++ rest) (c .read-sealed .ensures .0))
     ∙ array-kept (P s) k (from s) (s .args .numbers .now) rest (omega (arith, mul-le-mul-left (2 * s .args .p .n) h)) (omega (arith, private-numbers (s .args .p .n))) (omega (arith, few s, private-numbers (s .args .p .n)))
 
-sealed-is : (c : tie.After-read-sealed) → let s = c .before .before .before .before in s .args .p .n ≡ s .args .sealed .n → arrayAt (P s) 2 (held c) ≡ new c
-sealed-is c e = let s = c .before .before .before .before in sym (part-is (P s) 2 (held c) (count s) (from s) (omega (arith, e)) (omega arith))
+sealed-is : (c : tie.After-read-sealed) → let s = c .before .before .before in s .args .p .n ≡ s .args .sealed .n → arrayAt (P s) 2 (held c) ≡ new c
+sealed-is c e = let s = c .before .before .before in sym (part-is (P s) 2 (held c) (count s) (from s) (omega (arith, e)) (omega arith))
 
 -- the sealed file is read
-sealed-read : (c : tie.After-enum-told) → let s = c .before .before .before .before .before .before .before in Read 3 (setOf (s .args .sealed)) (s .args .file .now) (new (c .before .before .before))
+sealed-read : (c : tie.After-enum-told) → let s = c .before .before .before .before .before .before in Read 3 (setOf (s .args .sealed)) (s .args .file .now) (new (c .before .before .before))
 sealed-read c =
     let r = c .before .before .before in
-    let s = r .before .before .before .before in
+    let s = r .before .before .before in
     file-read 3 (s .args .file .now) (setOf (s .args .sealed)) (s .pre .1 .1) (part s) _ (r .read-sealed .ensures .1 .0) _ (c .enum-told .given .1) (r .read-sealed .ensures .1 .1)
 
 -- its one array is of remainders
@@ -102,29 +102,24 @@ pub open-sealed-in-spec : {M : Type 1} → statement M
 open-sealed-in-spec =
     tie.close
     (tie.spec
-    (λ c κs. let s = c .before .before .before in (few s, few-sealed s, s .pre .0 .1 .0))
+    (λ c κs. let s = c .before .before in (few s, few-sealed s, s .pre .0 .1))
     (λ c. search needs)
-    (λ c κs.
-    let r = c .before .before .before .before .before in
-    let s = r .before .before .before .before in
-    (s .pre .0 .0 .accepted, (held-long r, s .pre .0 .1 .1)))
-    (λ c. search needs)
+    (λ c κs. search needs)
     (λ c. search needs)
     (λ c. search needs)
     (λ c.
-    let o = c .before .before in
-    let t = o .before .before .before in
+    let t = c .before .before .before in
     let r = t .before .before .before in
-    let s = r .before .before .before .before in
+    let s = r .before .before .before in
     let sealed = setOf (s .args .sealed) in
     let numbers = keyIn (P s) (s .args .numbers .now) in
     gives-as
     (pair-is (P s) numbers (s .pre .0 .0) sealed _ (held r) (new r) (s .pre .1 .0) (kept r 0 (lit≤ tt)) (kept r 1 (lit≤ tt)) (sealed-is r) (new-long r) (reduced sealed (new r) (new-long r) (sealed-read t .sets))
     ∙ after-sealed (P s) numbers sealed (s .args .file .now) (new r) (sealed-read t))
-    (o .open-pair .ensures))
+    (c .open-pair .ensures))
     (λ c. search needs)
     (λ c.
     let r = c .before .before .before .before in
-    let s = r .before .before .before .before in
+    let s = r .before .before .before in
     let w = c .before .refusal .given in
     gives-refusal (sym (refused-first (fileChecks 3 (s .args .file .now)) _ _ _ (file-refused 3 (s .args .file .now) (setOf (s .args .sealed)) (s .pre .1 .1) (part s) _ (r .read-sealed .ensures .1 .0) (room s) (w .0 .0) (w .1))))))

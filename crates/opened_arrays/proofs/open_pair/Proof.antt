@@ -10,10 +10,10 @@ use Rattle.refusals.specs.declared.Answer.{Answer}
 use Rattle.refusals.proofs.Checks.{call-passed, call-refused, none-left}
 use Rattle.parameters.specs.Sets.{setOf}
 use Rattle.parameter_comparison.specs.Comparison.{sameSet}
-use Rattle.opened_files.specs.Steps.{after, openingArrays}
-use Rattle.opened_files.proofs.Answers.{gives-as, gives-refusal}
-use Rattle.opened_files.proofs.messages.open_pair.Statement.{statement}
-use Rattle.opened_files.proofs.messages.open_pair.Tie as tie
+use Rattle.opened_arrays.specs.Openings.{after, openingArrays}
+use Rattle.opened_arrays.proofs.Answers.{gives-as, gives-refusal}
+use Rattle.opened_arrays.proofs.open_pair.Statement.{statement}
+use Rattle.opened_arrays.proofs.open_pair.Tie as tie
 
 abbrev opened : tie.Start → Outcome (List ℕ)
 opened s = openingArrays (setOf (s .args .p)) (s .args .numbers .now)
@@ -22,7 +22,7 @@ opened s = openingArrays (setOf (s .args .p)) (s .args .numbers .now)
 abbrev with-key : tie.Start → Answer → Outcome (List ℕ)
 with-key s key = after (answered key) (opened s)
 
-passed-20 : (c : tie.Else1) → let s = c .before .before .before in outcome (20 if not (sameSet (setOf (s .args .p)) (setOf (s .args .sealed))) ∷ []) (tt {0}) ≡ done (tt {0})
+passed-20 : (c : tie.Else1) → let s = c .before .before in outcome (20 if not (sameSet (setOf (s .args .p)) (setOf (s .args .sealed))) ∷ []) (tt {0}) ≡ done (tt {0})
 passed-20 c = call-passed 20 [] (tt {0}) (c .before .same-parameters .ensures) (c .if1 .left) ∙ none-left (tt {0})
 
 pub open-pair-spec : {M : Type 1} → statement M
@@ -31,19 +31,17 @@ open-pair-spec =
     (tie.spec
     (λ c κs. search needs)
     (λ c.
-    let s = c .before .before .before in
+    let s = c .before .before in
     gives-refusal (sym (ap (λ (x : Outcome (Unit {0})). after x (with-key s (s .args .key))) (call-refused 20 [] (tt {0}) (c .before .same-parameters .ensures) (c .if1 .taken)))))
     (λ c. search needs)
     (λ c κs. search needs)
     (λ c. search needs)
-    (λ c. search needs)
     (λ c.
-    let o = c .before .before in
-    let t = o .before .before in
+    let t = c .before .before in
     let e = t .before .before in
-    let s = e .before .before .before in
-    gives-as (sym (ap₂ after (passed-20 e) (ap (with-key s) (t .enum-told .given .1)))) (o .open-arrays .ensures))
+    let s = e .before .before in
+    gives-as (sym (ap₂ after (passed-20 e) (ap (with-key s) (t .enum-told .given .1)))) (c .open-arrays .ensures))
     (λ c.
     let e = c .before .before .before in
-    let s = e .before .before .before in
+    let s = e .before .before in
     gives-refusal (sym (ap₂ after (passed-20 e) (ap (with-key s) (c .before .key .given .1))))))
