@@ -3,17 +3,12 @@ use mathlib.Core.Bool.{not}
 use mathlib.Core.List.{List, [], _∷_}
 use Prim.Native.Nat.{ℕ}
 use lib.IntN.{ℤ}
-use Rattle.refusals.specs.Outcomes.{Outcome, outcome, done, refused, _if_}
+use Rattle.refusals.specs.Outcomes.{Outcome, outcome, first, _if_}
 use Rattle.parameters.specs.Sets.{ParameterSet}
 use Rattle.parameter_comparison.specs.Comparison.{sameSet}
 use Rattle.packing.specs.Messages.{messageBytes}
 use Rattle.etru.specs.Calls.{opening}
 use Rattle.files.specs.Files.{arrayAt}
-
--- A refusal that came before, or this outcome.
-abbrev pub after : {A : Type 0} → Outcome (Unit {0}) → Outcome A → Outcome A
-after (done _) o = o
-after (refused n) o = refused n
 
 -- Opening with f, F2 and e, one after another in an array.
 abbrev pub openingArrays : ParameterSet → List ℤ → Outcome (List ℕ)
@@ -21,4 +16,4 @@ openingArrays p l = opening p (arrayAt p 0 l) (arrayAt p 1 l) (arrayAt p 2 l) (m
 
 -- A pair whose key check answered so: 20, then 13 and 14, then opening itself.
 abbrev pub openingWith : (p p′ : ParameterSet) → Outcome (Unit {0}) → List ℤ → Outcome (List ℕ)
-openingWith p p′ key l = after (outcome (20 if not (sameSet p p′) ∷ []) tt) (after key (openingArrays p l))
+openingWith p p′ key l = first (outcome (20 if not (sameSet p p′) ∷ []) (tt {0})) (first key (openingArrays p l))

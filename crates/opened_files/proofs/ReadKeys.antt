@@ -10,10 +10,10 @@ use lib.ListN.{length, drop, length-drop}
 use lib.Seq.{length-take-le}
 use mir.Facts.{and-yes, yes-and, yes-eqb}
 use Rattle.integers.proofs.Tests.{equal-4}
-use Rattle.refusals.specs.Outcomes.{Check, Outcome, done, outcome, number, _if_}
+use Rattle.refusals.specs.Outcomes.{Check, Outcome, done, outcome, first, number, _if_}
 use Rattle.refusals.specs.Numbers.{answered}
 use Rattle.refusals.specs.declared.Answer.{Answer}
-use Rattle.refusals.proofs.Checks.{positive, same-number, passed-all, holds-passed, fails-refused, none-left, done-holds}
+use Rattle.refusals.proofs.Checks.{positive, same-number, passed-all, holds-passed, fails-refused, none-left, done-holds, first-of, first-done}
 use Rattle.eisenstein.specs.Values.{ℤ[ω], same}
 use Rattle.eisenstein.proofs.Equality.{same-yes}
 use Rattle.parameters.specs.Sets.{ParameterSet, parameterChecks}
@@ -32,8 +32,8 @@ use Rattle.files.proofs.SetChecks.{first-array, next-array}
 use Rattle.stored_keys.specs.Keys.{storedKeyCheck}
 use Rattle.opened_files.specs.Pairs.{inverseChecks, pairChecks, messageOf}
 use Rattle.opened_files.specs.Steps.{KeyRead}
-use Rattle.opened_arrays.specs.Openings.{after, openingArrays, openingWith}
-use Rattle.opened_arrays.proofs.Answers.{answer-by-number, after-checks, after-done}
+use Rattle.opened_arrays.specs.Openings.{openingArrays, openingWith}
+use Rattle.opened_arrays.proofs.Answers.{answer-by-number}
 
 -- two sets that are the same have the same ring
 same-ring : (p p′ : ParameterSet) → T (sameSet p p′) → (p .N ≡ p′ .N) × (p .q ≡ p′ .q)
@@ -121,8 +121,8 @@ module _ (p : ParameterSet) (numbers : List ℤ) (key : KeyRead p numbers) where
           let n′ : length e ≡ 2 * p .N = omega (arith, w .0, n) in
           let r′ = subst T (ap₂ (λ (N : ℕ) (q : ℤ[ω]). reducedQ N q (coefficient e)) (sym (w .0)) (sym (w .1))) r in
           let o′ : openingArrays p l ≡ done (messageOf p numbers e) = (λ i. opening p (f-is i) (F2-is i) (e-is (w .0) i) (messageBytes (p .N))) ∙ opens e n′ r′ in
-          ap (after (outcome (20 if not (sameSet p p′) ∷ []) (tt {0}))) (ap₂ after k o′ ∙ after-done (inverseChecks p numbers) (messageOf p numbers e))
-          ∙ after-checks (20 if not (sameSet p p′) ∷ []) (inverseChecks p numbers) (messageOf p numbers e)
+          ap (first (outcome (20 if not (sameSet p p′) ∷ []) (tt {0}))) (ap₂ first k o′ ∙ first-done (inverseChecks p numbers) (messageOf p numbers e))
+          ∙ first-of (20 if not (sameSet p p′) ∷ []) (inverseChecks p numbers) (messageOf p numbers e)
       go false s =
-          ap (λ (x : Outcome (Unit {0})). after x (after o (openingArrays p l))) (fails-refused 20 (sameSet p p′) [] (tt {0}) s)
+          ap (λ (x : Outcome (Unit {0})). first x (first o (openingArrays p l))) (fails-refused 20 (sameSet p p′) [] (tt {0}) s)
           ∙ sym (fails-refused 20 (sameSet p p′) (inverseChecks p numbers) (messageOf p numbers e) s)

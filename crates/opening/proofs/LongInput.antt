@@ -9,7 +9,7 @@ use lib.Dec.{eqb}
 use lib.ListN.{length, take, drop, length-drop, length-append, take-append-drop}
 use lib.Seq.{take-take, length-take-le, take-append-le, drop-append-le}
 use Rattle.refusals.specs.Outcomes.{Check, refused, outcome}
-use Rattle.refusals.proofs.Checks.{fails-refused}
+use Rattle.refusals.proofs.Checks.{fails-refused, same-first}
 use Rattle.parameters.specs.Sets.{parameterChecks}
 use Rattle.parameters.proofs.AcceptedParameters.{accepted-parameters}
 use Rattle.heads.specs.Kinds.{arraysOf}
@@ -19,7 +19,6 @@ use Rattle.head_reading.specs.Calls.{headChecks}
 use Rattle.files.specs.Calls.{contentChecks, readingChecks}
 use Rattle.files.proofs.Passed.{file-bytes}
 use Rattle.files.proofs.Bounds.{numbers-few}
-use Rattle.opened_arrays.proofs.Answers.{same-first}
 use Rattle.opened_files.proofs.FirstBytes.{head-of-start, checks-of-start}
 use Rattle.lines.specs.Lines.{lineOf}
 use Rattle.opened_files.specs.Pairs.{firstLength, fileChecks, openingPair, openingFiles}

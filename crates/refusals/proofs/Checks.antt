@@ -187,7 +187,7 @@ gives-same {A} old e g = (g .0 ∙ sym (ap number e), g .1 ∙ sym (ap (λ (x : 
 
 -- ---- tests one after the other
 
-first-of : {A : Type 0} (cs ds : List Check) (a : A) → first (outcome cs (tt {0})) (outcome ds a) ≡ outcome (cs ++ ds) a
+pub first-of : {A : Type 0} (cs ds : List Check) (a : A) → first (outcome cs (tt {0})) (outcome ds a) ≡ outcome (cs ++ ds) a
 unfolding outcome
 first-of [] ds a = refl
 first-of (c ∷ cs) ds a = go (c .applies) (first-of cs ds a)
@@ -199,12 +199,23 @@ first-of (c ∷ cs) ds a = go (c .applies) (first-of cs ds a)
 pub and-checks : {A : Type 0} (cs ds : List Check) (a : A) {o : Outcome (Unit {0})} {r : Outcome A} → o ≡ outcome cs tt → r ≡ outcome ds a → first o r ≡ outcome (cs ++ ds) a
 and-checks cs ds a {o} {r} e f = ap (λ (z : Outcome (Unit {0})). first z r) e ∙ ap (first (outcome cs (tt {0}))) f ∙ first-of cs ds a
 
--- a check of two tests is a check of each
-module _ {A : Type 0} (a : A) where
-  pub both-tests : (n : ℕ) (s t : Bool) → outcome (n if not s ∷ n if not t ∷ []) a ≡ outcome (n if not (s && t) ∷ []) a
-  unfolding outcome
-  both-tests n true t = refl
-  both-tests n false t = refl
+pub first-done : {A : Type 0} (cs : List Check) (a : A) → first (outcome cs (tt {0})) (done a) ≡ outcome cs a
+first-done cs a = go (outcome cs (tt {0})) refl
+  where
+    go : (o : Outcome (Unit {0})) → outcome cs (tt {0}) ≡ o → first o (done a) ≡ outcome cs a
+    go (done _) e = sym (done-with cs a e)
+    go (refused n) e = sym (refused-with cs a n e)
 
-  pub same-rest : (cs ds es : List Check) → outcome ds a ≡ outcome es a → outcome (cs ++ ds) a ≡ outcome (cs ++ es) a
-  same-rest cs ds es e = sym (first-of cs ds a) ∙ ap (first (outcome cs (tt {0}))) e ∙ first-of cs es a
+-- outcomes that begin with the same checks are the same, if they are so where those are passed
+pub same-first : {A : Type 0} (cs ds ds′ : List Check) (a a′ : A) → (outcome cs (tt {0}) ≡ done (tt {0}) → outcome ds a ≡ outcome ds′ a′) → outcome (cs ++ ds) a ≡ outcome (cs ++ ds′) a′
+same-first cs ds ds′ a a′ h = go (outcome cs (tt {0})) refl
+  where
+    go : (o : Outcome (Unit {0})) → outcome cs (tt {0}) ≡ o → outcome (cs ++ ds) a ≡ outcome (cs ++ ds′) a′
+    go (done _) e = passed-all cs ds a e ∙ h e ∙ sym (passed-all cs ds′ a′ e)
+    go (refused n) e = refused-first cs ds a n e ∙ sym (refused-first cs ds′ a′ n e)
+
+-- a check of two tests is a check of each
+pub both-tests : {A : Type 0} (n : ℕ) (s t : Bool) (a : A) → outcome (n if not s ∷ n if not t ∷ []) a ≡ outcome (n if not (s && t) ∷ []) a
+unfolding outcome
+both-tests n true t a = refl
+both-tests n false t a = refl

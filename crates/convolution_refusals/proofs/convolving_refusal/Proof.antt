@@ -8,7 +8,7 @@ use lib.Dec.{T}
 use lib.ListN.{length}
 use Rattle.integers.proofs.Tests.{are-equal-3}
 use Rattle.refusals.specs.Outcomes.{_if_}
-use Rattle.refusals.proofs.Checks.{both-tests, same-rest}
+use Rattle.refusals.proofs.Checks.{both-tests, same-first}
 use Rattle.parameters.specs.Sets.{ParameterSet, setOf, parameterChecks}
 use Rattle.polynomials.specs.Polynomials.{coefficient, reducedQ}
 use Rattle.arrays.specs.Arrays.{full}
@@ -52,4 +52,4 @@ convolving-refusal-spec =
     let ox = cx .and2 .ensures ∙ and-array p t ReducedModuloQ x (λ h. asked s h .0) [] o7 (cx .before .check-array .ensures) in
     c .and3 .ensures
     ∙ and-array p t ReducedModuloQ y (λ h. asked s h .1) (own p ReducedModuloQ x ∷ []) ox (c .before .check-array2 .ensures)
-    ∙ same-rest tt (parameterChecks p) _ _ (same-rest tt (7 if not t ∷ []) _ _ (both-tests tt 12 (reducedQ (p .N) (p .q) (coefficient x)) (reducedQ (p .N) (p .q) (coefficient y))))))
+    ∙ same-first (parameterChecks p) _ _ tt tt (λ _. same-first (7 if not t ∷ []) _ _ tt tt (λ _. both-tests 12 (reducedQ (p .N) (p .q) (coefficient x)) (reducedQ (p .N) (p .q) (coefficient y)) tt))))

@@ -10,13 +10,13 @@ use lib.Seq.{length-take-le}
 use Rattle.refusals.specs.Outcomes.{Outcome, done, number, written}
 use Rattle.refusals.specs.Numbers.{numberOf, answered}
 use Rattle.refusals.specs.declared.Answer.{Answer}
-use Rattle.refusals.proofs.Checks.{done-as-written, refused-by-number}
+use Rattle.refusals.proofs.Checks.{done-as-written, refused-by-number, same-first}
 use Rattle.refusals.proofs.Numbers.{number-positive}
 use Rattle.parameters.specs.Sets.{ParameterSet, setOf, parameterChecks}
 use Rattle.parameters.proofs.AcceptedParameters.{accepted-parameters}
 use Rattle.packing.specs.Messages.{messageBytes}
 use Rattle.etru.specs.Calls.{openingChecks, opening}
-use Rattle.opened_arrays.proofs.Answers.{same-first, gives-as}
+use Rattle.opened_arrays.proofs.Answers.{gives-as}
 use Rattle.opened_arrays.proofs.open_message.Statement.{statement}
 use Rattle.opened_arrays.proofs.open_message.Tie as tie
 
