@@ -37,16 +37,17 @@ def better(r):
 
 
 def reduce_q(x, q):
-    """The best of the values x - q·z whose z lies within 3 of the quotient, rounded down, at each part.
+    """The best of the values x - q·z whose z lies within 1 of the quotient, rounded down, at each part.
 
-    norm(x - q·z) is norm(q) times the squared distance of z from x/q, so a z further off cannot be best.
+    norm(x - q·z) is norm(q) times the norm of w = x/q - z. The nearest z at each part has norm(w) at most 3/4, and
+    norm(w) is at least 3/4 of the square of either part of w, so a z that is more than 1 off at a part is not best.
     """
     c, d = q
     n = norm(q)
     # x/q is x times the conjugate of q, (c - d, -d), over the norm
     u, v = multiply(x, (c - d, -d))
     u, v = u // n, v // n
-    around = [(u + i, v + j) for i in range(-3, 4) for j in range(-3, 4)]
+    around = [(u + i, v + j) for i in (-1, 0, 1) for j in (-1, 0, 1)]
     return min((subtract(x, multiply(q, z)) for z in around), key=better)
 
 
