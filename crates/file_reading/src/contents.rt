@@ -11,7 +11,6 @@ ghost use Rattle.heads.specs.Kinds.{arraysOf};
 ghost use Rattle.files.specs.Files.{fileNumbers, numbersFrom, arrayAt};
 ghost use Rattle.files.specs.Calls.{setChecks};
 use crate::stored::read_numbers;
-use array_sets::ArraySet;
 use heads::kinds::array_count;
 use heads::kinds::array_set;
 use parameters::Parameters;

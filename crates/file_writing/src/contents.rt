@@ -10,7 +10,6 @@ ghost use Rattle.array_sets.specs.declared.ArraySet.the-variants.{ReducedModulo
 ghost use Rattle.heads.specs.Kinds.{arraysOf};
 ghost use Rattle.files.specs.Files.{fileNumbers, arrayAt};
 ghost use Rattle.files.specs.Calls.{setChecks};
-use array_sets::ArraySet;
 use heads::kinds::array_count;
 use heads::kinds::array_set;
 use parameters::Parameters;
