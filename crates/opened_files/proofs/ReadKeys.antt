@@ -14,6 +14,7 @@ use Rattle.refusals.specs.Outcomes.{Check, Outcome, done, outcome, first, numbe
 use Rattle.refusals.specs.Numbers.{answered}
 use Rattle.refusals.specs.declared.Answer.{Answer}
 use Rattle.refusals.proofs.Checks.{positive, same-number, passed-all, holds-passed, fails-refused, none-left, done-holds, first-of, first-done}
+use Rattle.refusals.proofs.Numbers.{answer-by-number}
 use Rattle.eisenstein.specs.Values.{ℤ[ω], same}
 use Rattle.eisenstein.proofs.Equality.{same-yes}
 use Rattle.parameters.specs.Sets.{ParameterSet, parameterChecks}
@@ -33,7 +34,6 @@ use Rattle.stored_keys.specs.Keys.{storedKeyCheck}
 use Rattle.opened_files.specs.Pairs.{inverseChecks, pairChecks, messageOf}
 use Rattle.opened_files.specs.Steps.{KeyRead}
 use Rattle.opened_arrays.specs.Openings.{openingArrays, openingWith}
-use Rattle.opened_arrays.proofs.Answers.{answer-by-number}
 
 -- two sets that are the same have the same ring
 same-ring : (p p′ : ParameterSet) → T (sameSet p p′) → (p .N ≡ p′ .N) × (p .q ≡ p′ .q)

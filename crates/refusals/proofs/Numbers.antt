@@ -1,7 +1,7 @@
--- No refusal has the number 0, and each has at most two digits.
--- That is computed for every variant in the enum's own list of them, so no variant is named here.
+-- No refusal has the number 0, and each has at most two digits. So an answer's number tells its outcome.
+-- The first two are computed for every variant in the enum's own list of them, so no variant is named here.
 use Prim.Native.Nat.{_<_}
-use mathlib.Core.Path.{subst}
+use mathlib.Core.Path.{_≡_, sym, _∙_, ap, subst}
 use mathlib.Core.Bool.{Bool, true, false, _&&_}
 use mathlib.Core.List.{List, [], _∷_}
 use mathlib.Core.Logic.{inl, inr}
@@ -9,8 +9,12 @@ use denote.Struct.Field.{Field}
 use denote.Enum.Declared.{Choice}
 use lib.Dec.{T, ltb}
 use mir.Facts.{and-yes, ltb-yes}
-use Rattle.refusals.specs.Numbers.{numberOf}
+use Rattle.refusals.specs.Outcomes.{Check, Outcome, refused, outcome, number}
+use Rattle.refusals.specs.Numbers.{numberOf, answered}
+use Rattle.refusals.specs.declared.Answer.{Answer}
+use Rattle.refusals.specs.declared.Answer.the-variants.{Done, Refused}
 use Rattle.refusals.specs.declared.Refusal.{Refusal}
+use Rattle.refusals.proofs.Checks.{positive, done-by-number, refused-by-number}
 use Rattle.refusals.proofs.Refusal as variants
 
 -- A test holds of every variant, where none has fields.
@@ -36,3 +40,12 @@ number-positive r = ltb-yes (and-yes (ltb 0 (numberOf r)) (ltb (numberOf r) 100)
 
 pub two-digits : (r : Refusal) → numberOf r < 100
 two-digits r = ltb-yes (and-yes (ltb 0 (numberOf r)) (ltb (numberOf r) 100) (in-range r) .1)
+
+-- ---- an outcome from the number of an answer
+
+pub answer-by-number : (a : Answer) (cs : List Check) → T (positive cs) → number (answered a) ≡ number (outcome cs (tt {0})) → answered a ≡ outcome cs (tt {0})
+answer-by-number Done cs t e = sym (done-by-number cs (tt {0}) t (sym e))
+answer-by-number (Refused r) cs t e = sym (refused-by-number (outcome cs (tt {0})) (numberOf r) (number-positive r) (sym e))
+
+pub answer-refused : {A : Type 0} (o : Outcome A) (answer : Answer) (r : Refusal) → number (answered answer) ≡ number o → answer ≡ Refused r → o ≡ refused (numberOf r)
+answer-refused o answer r e a = refused-by-number o (numberOf r) (number-positive r) (sym e ∙ ap (λ (x : Answer). number (answered x)) a)

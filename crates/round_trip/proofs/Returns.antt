@@ -4,13 +4,11 @@ use mathlib.Core.List.{List, _++_}
 use Prim.Native.Nat.{ℕ, _*_}
 use lib.IntN.{ℤ}
 use lib.ListN.{length}
-use Rattle.refusals.specs.Outcomes.{Outcome, done, refused, number, written, Gives}
-use Rattle.refusals.specs.Numbers.{numberOf, answered}
+use Rattle.refusals.specs.Outcomes.{Outcome, done, number, written, Gives}
+use Rattle.refusals.specs.Numbers.{answered}
 use Rattle.refusals.specs.declared.Answer.{Answer}
-use Rattle.refusals.specs.declared.Answer.the-variants.{Done, Refused}
-use Rattle.refusals.specs.declared.Refusal.{Refusal}
-use Rattle.refusals.proofs.Checks.{done-as-written, refused-by-number, gives-same}
-use Rattle.refusals.proofs.Numbers.{number-positive}
+use Rattle.refusals.specs.declared.Answer.the-variants.{Done}
+use Rattle.refusals.proofs.Checks.{done-as-written, gives-same}
 use Rattle.parameters.specs.Sets.{ParameterSet, parameterChecks}
 use Rattle.polynomials.specs.Polynomials.{coefficient, array}
 use Rattle.packing.specs.Messages.{messageBytes, packed}
@@ -25,9 +23,6 @@ pub wrote-same : {A : Type 0} {o o′ : Outcome A} (old : A) → o ≡ o′ → 
 wrote-same {A} old e = sym (ap (λ (x : Outcome A). written x old) e)
 
 -- ---- an outcome from its number
-
-pub answer-refused : {A : Type 0} (o : Outcome A) (answer : Answer) (r : Refusal) → number (answered answer) ≡ number o → answer ≡ Refused r → o ≡ refused (numberOf r)
-answer-refused o answer r e a = refused-by-number o (numberOf r) (number-positive r) (sym e ∙ ap (λ (x : Answer). number (answered x)) a)
 
 pub key-done : (p : ParameterSet) (f F2 Fq g : List ℤ) (room : ℕ) (old new : List ℤ) (answer : Answer) → answer ≡ Done → Gives (keyCheck p f F2 Fq g room) (number (answered answer)) old new → keyCheck p f F2 Fq g room ≡ done new
 unfolding keyCheck keyChecks parameterChecks

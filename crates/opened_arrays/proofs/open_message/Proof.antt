@@ -8,10 +8,10 @@ use lib.IntN.{ℤ}
 use lib.ListN.{length, take, drop, take-append-drop}
 use lib.Seq.{length-take-le}
 use Rattle.refusals.specs.Outcomes.{Outcome, done, number, written}
-use Rattle.refusals.specs.Numbers.{numberOf, answered}
+use Rattle.refusals.specs.Numbers.{answered}
 use Rattle.refusals.specs.declared.Answer.{Answer}
-use Rattle.refusals.proofs.Checks.{done-as-written, refused-by-number, same-first}
-use Rattle.refusals.proofs.Numbers.{number-positive}
+use Rattle.refusals.proofs.Checks.{done-as-written, same-first}
+use Rattle.refusals.proofs.Numbers.{answer-refused}
 use Rattle.parameters.specs.Sets.{ParameterSet, setOf, parameterChecks}
 use Rattle.parameters.proofs.AcceptedParameters.{accepted-parameters}
 use Rattle.packing.specs.Messages.{messageBytes}
@@ -93,6 +93,6 @@ open-message-spec =
     let k = m .least .result in
     let old = s .args .message .now in
     let n = c .before .refusal .given .0 .0 in
-    let o = refused-by-number (outcome-of s) (numberOf n) (number-positive n) (sym (number-is r) ∙ ap (λ (a : Answer). number (answered a)) (c .before .refusal .given .1)) in
+    let o = answer-refused (outcome-of s) (r .«open» .result) n (number-is r) (c .before .refusal .given .1) in
     let same : new r ≡ take k old = new-is r ∙ ap (λ (x : Outcome (List ℕ)). written x (take k old)) o in
     gives-as (sym o) (record { answer = refl; left = ap (λ (l : List ℕ). l ++ drop k old) same ∙ take-append-drop k old })))

@@ -7,10 +7,11 @@ use lib.IntN.{ℤ}
 use lib.ListN.{length}
 use Rattle.refusals.specs.Outcomes.{Outcome, done}
 use Rattle.refusals.proofs.Checks.{gives-same}
+use Rattle.refusals.proofs.Numbers.{answer-refused}
 use Rattle.parameters.specs.Sets.{setOf}
 use Rattle.etru.specs.Calls.{keyCheck, sealing, opening}
 use Rattle.round_trip.specs.RoundTrip.{next, checkedSealing, roundTrip}
-use Rattle.round_trip.proofs.Returns.{wrote-same, answer-refused, key-done, returns}
+use Rattle.round_trip.proofs.Returns.{wrote-same, key-done, returns}
 use Rattle.round_trip.proofs.check_seal_open.Statement.{statement}
 use Rattle.round_trip.proofs.check_seal_open.Tie as tie
 

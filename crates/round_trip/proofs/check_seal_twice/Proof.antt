@@ -6,10 +6,11 @@ use lib.IntN.{ℤ}
 use lib.ListN.{length}
 use Rattle.refusals.specs.Outcomes.{Outcome, done}
 use Rattle.refusals.proofs.Checks.{gives-same}
+use Rattle.refusals.proofs.Numbers.{answer-refused}
 use Rattle.parameters.specs.Sets.{setOf}
 use Rattle.etru.specs.Calls.{keyCheck, sealing}
 use Rattle.round_trip.specs.RoundTrip.{next, checkedSealing, sealingTwice, checkedSealingTwice}
-use Rattle.round_trip.proofs.Returns.{wrote-same, answer-refused, key-done, sealings-differ}
+use Rattle.round_trip.proofs.Returns.{wrote-same, key-done, sealings-differ}
 use Rattle.round_trip.proofs.check_seal_twice.Statement.{statement}
 use Rattle.round_trip.proofs.check_seal_twice.Tie as tie
 
