@@ -12,10 +12,12 @@ ghost use Rattle.message_packing.specs.Calls.{packing};
 ghost use Rattle.message_unpacking.specs.Calls.{unpacking};
 ghost use Rattle.convolution.specs.Calls.{convolving};
 ghost use Rattle.etru.specs.Calls.{keyCheck, sealing, opening};
+ghost use Rattle.placed_ephemerals.specs.Calls.{spreading, placesSealing};
 ghost use Rattle.head_reading.specs.Calls.{readingHead};
 ghost use Rattle.files.specs.Calls.{reading, writing};
 ghost use Rattle.opening.specs.Program.{lineWriting, lineLength};
 use parameters::Parameters;
+use placed_units::PlacedUnit;
 
 // The remainder of (a, b) modulo q = (c, d), to ra and rb.
 #[no_mangle]
@@ -97,6 +99,44 @@ pub extern "C" fn etru_seal(
 {
     let p = Parameters { n, c, d, s, t };
     sealing::seal(p, h, phi, message, e).number()
+}
+
+// Seals a message with the ephemeral that a list of places spreads to, to e.
+#[no_mangle]
+pub extern "C" fn etru_seal_places(
+    n: u32,
+    c: i32,
+    d: i32,
+    s: u32,
+    t: u32,
+    h: &[i32],
+    places: &[PlacedUnit],
+    message: &[u8],
+    e: &mut [i32],
+) -> u32
+    ensures { λ r. ⌜ Gives (placesSealing (set n c d s t) (now (h .entry)) (now (places .entry)) (now (message .entry)) (length (now (e .entry)))) r (now (e .entry)) (now (e .exit)) ⌝ }
+{
+    let p = Parameters { n, c, d, s, t };
+    let answer = place_records::seal_places(p, h, places, message, e);
+    answer.number()
+}
+
+// Spreads a list of places, to phi.
+#[no_mangle]
+pub extern "C" fn etru_spread_places(
+    n: u32,
+    c: i32,
+    d: i32,
+    s: u32,
+    t: u32,
+    places: &[PlacedUnit],
+    phi: &mut [i32],
+) -> u32
+    ensures { λ r. ⌜ Gives (spreading (set n c d s t) (now (places .entry)) (length (now (phi .entry)))) r (now (phi .entry)) (now (phi .exit)) ⌝ }
+{
+    let p = Parameters { n, c, d, s, t };
+    let answer = place_records::spread_places(p, places, phi);
+    answer.number()
 }
 
 // Opens a sealed array. The message goes to message.

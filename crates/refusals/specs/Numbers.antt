@@ -1,4 +1,4 @@
--- Document 01, 'Where each number is checked': the number of each refusal, in the table's order.
+-- The number of each refusal, in the order of document 01's table ('Where each number is checked'), then those of document 02's wishes.
 use Prim.Native.Nat.{ℕ}
 use Rattle.refusals.specs.Outcomes.{Outcome, done, refused}
 use Rattle.refusals.specs.declared.Answer.{Answer}
@@ -28,6 +28,8 @@ numberOf Refusal.KindNotWanted = 19
 numberOf Refusal.ParametersDiffer = 20
 numberOf Refusal.ModulusZero = 21
 numberOf Refusal.ValueOutOfRange = 22
+numberOf Refusal.PlaceOrUnitOutOfRange = 23
+numberOf Refusal.PlaceOccursTwice = 24
 
 -- An answer that carries no value, as an outcome.
 abbrev pub answered : Answer → Outcome (Unit {0})

@@ -1,4 +1,4 @@
-// Document 01's refusals, each with its number. Which condition is tested where, and in what order, is in the crates of the calls.
+// The refusals of documents 01 and 02, each with its number. Which condition is tested where, and in what order, is in the crates of the calls.
 ghost use mathlib.Core.Path.{_≡_};
 ghost use mathlib.Core.List.{[], _∷_};
 ghost use Rattle.refusals.specs.Numbers.{numberOf, answered};
@@ -27,10 +27,12 @@ pub enum Refusal {
     ParametersDiffer,
     ModulusZero,
     ValueOutOfRange,
+    PlaceOrUnitOutOfRange,
+    PlaceOccursTwice,
 }
 
 impl Refusal {
-    // Document 01's number.
+    // The document's number.
     pub fn number(self) -> u32
         ensures { λ r. ⌜ r ≡ numberOf self ⌝ }
     {
@@ -57,6 +59,8 @@ impl Refusal {
             Refusal::ParametersDiffer => 20,
             Refusal::ModulusZero => 21,
             Refusal::ValueOutOfRange => 22,
+            Refusal::PlaceOrUnitOutOfRange => 23,
+            Refusal::PlaceOccursTwice => 24,
         }
     }
 
@@ -78,7 +82,7 @@ pub enum Answer {
 }
 
 impl Answer {
-    // Document 01's number, or 0 where nothing is refused.
+    // The document's number, or 0 where nothing is refused.
     pub fn number(self) -> u32
         ensures { λ r. ⌜ r ≡ number (answered self) ⌝ }
     {

@@ -37,4 +37,6 @@ number-spec =
     (omega (arith, number-known)) (omega (arith, number-known))
     (omega (arith, number-known)) (omega (arith, number-known))
     (omega (arith, number-known)) (omega (arith, number-known))
+    (omega (arith, number-known)) (omega (arith, number-known))
+    (omega (arith, number-known)) (omega (arith, number-known))
     )

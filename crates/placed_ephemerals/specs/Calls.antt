@@ -1,0 +1,45 @@
+-- The outcomes of the two calls on a list of places, with the refusals in document 02's order. An output is known by its length, `room`.
+use mathlib.Core.Bool.{not, _&&_}
+use mathlib.Core.List.{List, [], _∷_, _++_}
+use Prim.Native.Nat.{ℕ}
+use lib.Dec.{eqb}
+use lib.IntN.{ℤ}
+use lib.ListN.{length}
+use Rattle.refusals.specs.Outcomes.{Check, Outcome, outcome, _if_}
+use Rattle.parameters.specs.Sets.{ParameterSet, parameterChecks}
+use Rattle.polynomials.specs.Polynomials.{coefficient, array, unitsOfSumZero, reducedQ}
+use Rattle.arrays.specs.Arrays.{full}
+use Rattle.packing.specs.Messages.{messageBytes, packed, spareBitSet}
+use Rattle.etru.specs.Scheme.{sealed}
+use Rattle.placed_units.specs.declared.PlacedUnit.{PlacedUnit}
+use Rattle.placed_units.specs.PlacedUnits.{anyOutOfRange, anyPlaceTwice, spread}
+
+-- "23 if a place is N or more or a unit number is above 5, 24 if a place occurs twice, both after h's check and before 10, with 23 first over the whole list."
+-- "The zero-sum rule stays under 10."
+abbrev pub placeChecks : ParameterSet → List PlacedUnit → List Check
+placeChecks p places =
+    23 if anyOutOfRange (p .N) places
+    ∷ 24 if anyPlaceTwice places
+    ∷ 10 if not (unitsOfSumZero (p .N) (p .s) (spread places))
+    ∷ []
+
+-- A list to its array. "The list has s records, else refusal 7."
+unfoldable pub spreadingChecks : ParameterSet → List PlacedUnit → ℕ → List Check
+spreadingChecks p places room =
+    7 if not (eqb (length places) (p .s) && full (p .N) room)
+    ∷ placeChecks p places
+
+unfoldable pub spreading : ParameterSet → List PlacedUnit → ℕ → Outcome (List ℤ)
+spreading p places room =
+    outcome (parameterChecks p ++ spreadingChecks p places room) (array (p .N) (spread places))
+
+-- Sealing from a list.
+unfoldable pub placesSealingChecks : ParameterSet → (h : List ℤ) → List PlacedUnit → (message : List ℕ) → ℕ → List Check
+placesSealingChecks p h places message room =
+    7 if not (eqb (length message) (messageBytes (p .N)) && (eqb (length places) (p .s) && (full (p .N) (length h) && full (p .N) room)))
+    ∷ 12 if not (reducedQ (p .N) (p .q) (coefficient h))
+    ∷ placeChecks p places ++ 15 if spareBitSet (p .N) message ∷ []
+
+unfoldable pub placesSealing : ParameterSet → (h : List ℤ) → List PlacedUnit → (message : List ℕ) → ℕ → Outcome (List ℤ)
+placesSealing p h places message room =
+    outcome (parameterChecks p ++ placesSealingChecks p h places message room) (array (p .N) (sealed p (coefficient h) (spread places) (packed message)))

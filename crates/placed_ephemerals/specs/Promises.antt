@@ -1,0 +1,60 @@
+-- What document 02's wish 1 promises of sealing from places, for all inputs; each is proved in proofs/Promises.antt.
+use mathlib.Core.Path.{_≡_}
+use mathlib.Core.Bool.{not}
+use mathlib.Core.List.{List, List·Permᴰ}
+use Prim.Native.Nat.{ℕ, _*_}
+use lib.Dec.{T}
+use lib.IntN.{ℤ}
+use lib.ListN.{length}
+use Rattle.refusals.specs.Outcomes.{done, Passes}
+use Rattle.parameters.specs.Sets.{ParameterSet, parameterChecks}
+use Rattle.polynomials.specs.Polynomials.{array, unitsOfSumZero}
+use Rattle.etru.specs.Calls.{sealing}
+use Rattle.etru.specs.Demand3.{Ephemeral}
+use Rattle.placed_units.specs.declared.PlacedUnit.{PlacedUnit}
+use Rattle.placed_units.specs.PlacedUnits.{anyOutOfRange, anyPlaceTwice, spread}
+use Rattle.placed_ephemerals.specs.Calls.{spreading, placesSealing}
+
+-- A list of s records that 23 and 24 do not refuse.
+pub record Spreadable (p : ParameterSet) (places : List PlacedUnit) : Type 0 where
+  pub records : length places ≡ p .s
+  pub in-range : T (not (anyOutOfRange (p .N) places))
+  pub once : T (not (anyPlaceTwice places))
+
+-- "Sealing from this list must give what sealing from the full array gives": the same number and the same output, whatever the other arguments are.
+abbrev pub Sealing-from-places : Type 0
+Sealing-from-places = (p : ParameterSet) (h : List ℤ) (places : List PlacedUnit) (message : List ℕ) (room : ℕ) → Spreadable p places → placesSealing p h places message room ≡ sealing p h (array (p .N) (spread places)) message room
+
+-- "their order is open": the same records in another order have the same outcome, also where it is a refusal.
+abbrev pub SameRecords : (places places′ : List PlacedUnit) → Type 0
+SameRecords places places′ = List·Permᴰ places places′
+
+abbrev pub Spreading-order-open : Type 0
+Spreading-order-open = (p : ParameterSet) (places places′ : List PlacedUnit) (room : ℕ) → SameRecords places places′ → spreading p places room ≡ spreading p places′ room
+
+abbrev pub Sealing-order-open : Type 0
+Sealing-order-open = (p : ParameterSet) (h : List ℤ) (places places′ : List PlacedUnit) (message : List ℕ) (room : ℕ) → SameRecords places places′ → placesSealing p h places message room ≡ placesSealing p h places′ message room
+
+-- A list that no check refuses.
+pub record PlacedEphemeral (p : ParameterSet) (places : List PlacedUnit) : Type 0 where
+  pub spreadable : Spreadable p places
+  pub in-set : T (unitsOfSumZero (p .N) (p .s) (spread places))
+
+-- Both calls accept just these lists, and the array of an accepted list is in the set of φ.
+abbrev pub Spreading-accepts : Type 0
+Spreading-accepts = (p : ParameterSet) (places : List PlacedUnit) → Passes (parameterChecks p) → PlacedEphemeral p places → spreading p places (2 * p .N) ≡ done (array (p .N) (spread places))
+
+abbrev pub Spreading-accepted : Type 0
+Spreading-accepted = (p : ParameterSet) (places : List PlacedUnit) (room : ℕ) (φ : List ℤ) → spreading p places room ≡ done φ → PlacedEphemeral p places × Ephemeral p φ
+
+abbrev pub Sealing-accepted : Type 0
+Sealing-accepted = (p : ParameterSet) (h : List ℤ) (places : List PlacedUnit) (message : List ℕ) (room : ℕ) (e : List ℤ) → placesSealing p h places message room ≡ done e → PlacedEphemeral p places × Ephemeral p (array (p .N) (spread places))
+
+-- Every φ of its set has such a list.
+pub record Places (p : ParameterSet) (φ : List ℤ) : Type 0 where
+  pub places : List PlacedUnit
+  pub accepted : PlacedEphemeral p places
+  pub spreads : array (p .N) (spread places) ≡ φ
+
+abbrev pub Every-ephemeral-has-places : Type 0
+Every-ephemeral-has-places = (p : ParameterSet) (φ : List ℤ) → Ephemeral p φ → Places p φ

@@ -1,0 +1,4 @@
+pub mod Lists
+pub mod Layouts
+pub mod Orders
+pub mod PlacesOf
