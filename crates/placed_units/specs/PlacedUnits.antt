@@ -7,7 +7,12 @@ use Rattle.eisenstein.specs.Values.{𝟘, unit}
 use Rattle.polynomials.specs.Polynomials.{Polynomial}
 use Rattle.placed_units.specs.declared.PlacedUnit.{PlacedUnit}
 
--- "a place is N or more or a unit number is above 5", of one record and "over the whole list"
+-- whether a record has place i
+unfoldable pub occurs : ℕ → List PlacedUnit → Bool
+occurs i [] = false
+occurs i (r ∷ rs) = eqb (r .place) i || occurs i rs
+
+-- 23: "a place is N or more or a unit number is above 5", of one record and "over the whole list"
 abbrev pub outOfRange : ℕ → PlacedUnit → Bool
 outOfRange N r = not (ltb (r .place) N) || ltb 5 (r .unit)
 
@@ -15,11 +20,7 @@ unfoldable pub anyOutOfRange : ℕ → List PlacedUnit → Bool
 anyOutOfRange N [] = false
 anyOutOfRange N (r ∷ rs) = outOfRange N r || anyOutOfRange N rs
 
--- whether place i occurs, and whether "a place occurs twice"
-unfoldable pub occurs : ℕ → List PlacedUnit → Bool
-occurs i [] = false
-occurs i (r ∷ rs) = eqb (r .place) i || occurs i rs
-
+-- 24: "a place occurs twice"
 unfoldable pub anyPlaceTwice : List PlacedUnit → Bool
 anyPlaceTwice [] = false
 anyPlaceTwice (r ∷ rs) = occurs (r .place) rs || anyPlaceTwice rs
