@@ -9,8 +9,8 @@ import random
 import sys
 
 import etru_reference as reference
-from keys import KEY_MODULI, ONE, SEALED, SMALL, TRIPLE, Key
-from keys import random_message, random_parameters, random_reduced, random_zero_sum
+from keys import ONE, SEALED, SMALL, TRIPLE, Key
+from keys import random_message, random_reduced, random_zero_sum, varied_keys
 from library import Library
 
 LOW64, HIGH64 = -(2**63), 2**63 - 1
@@ -269,23 +269,8 @@ def one_key(results, library, rng, key, kinds):
 
 
 def random_keys(results, library, rng):
-    made = 0
-    while made < 360:
-        n = rng.randint(3, 9) if made % 3 == 0 else rng.randint(10, 40)
-        q = rng.choice(KEY_MODULI)
-        if made % 4 == 0:
-            q = (rng.randint(-4095, 4095), rng.randint(-2048, 2047) * 2 + 1)
-        if made % 12 == 0:
-            n = rng.randint(41, 400)
-        if reference.norm(q) <= 4 * 7 * 7:
-            continue
-        p = random_parameters(rng, n, q)
-        if n > 40:
-            p.t = 1
-        key = Key(rng, p, 30)
-        if key.f is None:
-            continue
-        made += 1
+    for key in varied_keys(rng, 360):
+        p, n = key.p, key.p.n
         h = one_key(results, library, rng, key, ["zero", "one", "random"] if n <= 40 else ["random"])
         if n <= 40:
             one_call(results, library, rng, "convolve", p, [key.fq, h], 2 * n, 0)

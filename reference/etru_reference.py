@@ -1,7 +1,7 @@
-"""ETRU with p = 2, as document 01 says it: a program written apart from the library, to compare it with.
+"""ETRU with p = 2, as documents 01 and 02 say it: a program written apart from the library, to compare it with.
 
-It is written from document 01 alone, to be obviously right rather than fast: the remainder is searched for, and
-nothing is shared with the library but the document's words. A value a + bω is the tuple (a, b).
+It is written from the documents alone, to be obviously right rather than fast: the remainder is searched for, and
+nothing is shared with the library but the documents' words. A value a + bω is the tuple (a, b).
 """
 
 # ---- The ring
@@ -270,6 +270,45 @@ def call_seal(p, h, phi, message, room):
     doubled = [add(value, value) for value in coefficients(phi)]
     product = convolve(doubled, coefficients(h))
     return (0, array(all_reduced_q([add(x, m) for x, m in zip(product, pack(p.n, message))], p.q)))
+
+
+# An ephemeral as places, document 02's wish 1: a list of records (place, unit number), in any order.
+
+
+def spread(n, places):
+    """The polynomial that has each record's unit at its place, and zeros elsewhere."""
+    phi = [(0, 0)] * n
+    for place, unit in places:
+        phi[place] = UNITS[unit]
+    return phi
+
+
+def place_checks(p, places):
+    return [
+        (23, lambda: any(place >= p.n or unit > 5 for place, unit in places)),
+        (24, lambda: len({place for place, _ in places}) < len(places)),
+        (10, lambda: not units_of_sum_zero(spread(p.n, places), p.s)),
+    ]
+
+
+def call_seal_places(p, h, places, message, room):
+    number = first(
+        p.checks()
+        + [
+            (7, lambda: len(places) != p.s or lengths_wrong(p.n, [h], room, len(message))),
+            (12, lambda: not reduced_q(coefficients(h), p.q)),
+        ]
+        + place_checks(p, places)
+        + [(15, lambda: spare_bit_set(p.n, message))]
+    )
+    return (number, None) if number else call_seal(p, h, array(spread(p.n, places)), message, room)
+
+
+def call_spread_places(p, places, room):
+    """The value is the full array."""
+    lengths = [(7, lambda: len(places) != p.s or lengths_wrong(p.n, [], room))]
+    number = first(p.checks() + lengths + place_checks(p, places))
+    return (number, None if number else array(spread(p.n, places)))
 
 
 def call_open(p, f, f2, e, room):

@@ -205,3 +205,24 @@ class Key:
 
     def h(self):
         return reference.call_check_key(self.p, self.f, self.f2, self.fq, self.g, 2 * self.p.n)[1]
+
+
+def varied_keys(rng, count):
+    """Keys with N from 3 to 40, and one of twelve up to 400, where t is 1; q is a listed modulus or any."""
+    made = 0
+    while made < count:
+        n = rng.randint(3, 9) if made % 3 == 0 else rng.randint(10, 40)
+        q = rng.choice(KEY_MODULI)
+        if made % 4 == 0:
+            q = (rng.randint(-4095, 4095), rng.randint(-2048, 2047) * 2 + 1)
+        if made % 12 == 0:
+            n = rng.randint(41, 400)
+        if reference.norm(q) <= 4 * 7 * 7:
+            continue
+        p = random_parameters(rng, n, q)
+        if n > 40:
+            p.t = 1
+        key = Key(rng, p, 30)
+        if key.f is not None:
+            made += 1
+            yield key

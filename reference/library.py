@@ -12,11 +12,18 @@ ARCHIVE = os.path.join(ROOT, "target", "staticlib", "libetru_c.a")
 SHARED = os.path.join(ROOT, "target", "comparison", "libetru_c.so")
 
 I32, I64, U32, U8 = ctypes.c_int32, ctypes.c_int64, ctypes.c_uint32, ctypes.c_uint8
+
+
+class PlacedUnit(ctypes.Structure):
+    _fields_ = [("place", U32), ("unit", U32)]
+
+
 OUT = ctypes.POINTER(I32)
 PARAMETERS = [U32, I32, I32, U32, U32]
 # a slice is lent as its address and its count
 NUMBERS = [ctypes.POINTER(I32), ctypes.c_size_t]
 BYTES = [ctypes.POINTER(U8), ctypes.c_size_t]
+PLACES = [ctypes.POINTER(PlacedUnit), ctypes.c_size_t]
 ARGUMENTS = {
     "etru_reduce_q": [I64, I64, I32, I32, OUT, OUT],
     "etru_reduce_2": [I64, I64, OUT, OUT],
@@ -24,6 +31,8 @@ ARGUMENTS = {
     "etru_convolve": PARAMETERS + 3 * NUMBERS,
     "etru_check_key": PARAMETERS + 5 * NUMBERS,
     "etru_seal": PARAMETERS + 2 * NUMBERS + BYTES + NUMBERS,
+    "etru_seal_places": PARAMETERS + NUMBERS + PLACES + BYTES + NUMBERS,
+    "etru_spread_places": PARAMETERS + PLACES + NUMBERS,
     "etru_open": PARAMETERS + 3 * NUMBERS + BYTES,
     "etru_pack": [U32] + BYTES + NUMBERS,
     "etru_unpack": [U32] + NUMBERS + BYTES,
@@ -49,7 +58,7 @@ def load():
 
 
 def lent(kind, numbers):
-    """An array of these numbers; an empty one keeps a place, so that its address is valid."""
+    """An array of these numbers or records; an empty one keeps a place, so that its address is valid."""
     if kind is U8:
         # at once, as a file may be long
         return (U8 * max(len(numbers), 1)).from_buffer_copy(bytes(numbers) or bytes(1))
@@ -101,6 +110,12 @@ class Library:
 
     def seal(self, n, q, s, t, h, phi, message, before):
         return call(self.library.etru_seal, (n, *q, s, t), [h, phi, message], before)
+
+    def seal_places(self, n, q, s, t, h, places, message, before):
+        return call(self.library.etru_seal_places, (n, *q, s, t), [h, places, message], before)
+
+    def spread_places(self, n, q, s, t, places, before):
+        return call(self.library.etru_spread_places, (n, *q, s, t), [places], before)
 
     def open(self, n, q, s, t, f, f2, e, before):
         return call(self.library.etru_open, (n, *q, s, t), [f, f2, e], before)
