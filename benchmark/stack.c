@@ -14,6 +14,7 @@
 
 // f = F2 = Fq = 1 and g = φ = 1 + ωX + (−1 − ω)X², as in document 01's small key, with q = 15.
 static int32_t one[2 * N] = {1}, g[2 * N] = {1, 0, 0, 1, -1, -1}, h[2 * N], e[2 * N], out[2 * N];
+static const struct etru_placed_unit places[] = {{0, 0}, {1, 2}, {2, 4}};  // φ
 static uint8_t message[N / 4], opened[N / 4];
 
 // The numbers of the private file, and the private file with the sealed file directly after it.
@@ -25,6 +26,8 @@ static uint32_t check_parameters(void) { return etru_check_parameters(N, 15, 0, 
 static uint32_t convolve(void) { return etru_convolve(N, 15, 0, 3, 1, one, 2 * N, g, 2 * N, out, 2 * N); }
 static uint32_t check_key(void) { return etru_check_key(N, 15, 0, 3, 1, one, 2 * N, one, 2 * N, one, 2 * N, g, 2 * N, h, 2 * N); }
 static uint32_t seal(void) { return etru_seal(N, 15, 0, 3, 1, h, 2 * N, g, 2 * N, message, N / 4, e, 2 * N); }
+static uint32_t seal_places(void) { return etru_seal_places(N, 15, 0, 3, 1, h, 2 * N, places, 3, message, N / 4, e, 2 * N); }
+static uint32_t spread_places(void) { return etru_spread_places(N, 15, 0, 3, 1, places, 3, out, 2 * N); }
 static uint32_t open_sealed(void) { return etru_open(N, 15, 0, 3, 1, one, 2 * N, one, 2 * N, e, 2 * N, opened, N / 4); }
 static uint32_t pack(void) { return etru_pack(N, message, N / 4, out, 2 * N); }
 static uint32_t unpack(void) { return etru_unpack(N, out, 2 * N, opened, N / 4); }
@@ -89,6 +92,8 @@ int main(void) {
                  {"etru_convolve", convolve, 1},
                  {"etru_check_key", check_key, 28},
                  {"etru_seal", seal, 12},
+                 {"etru_seal_places", seal_places, 48},
+                 {"etru_spread_places", spread_places, 28},
                  {"etru_open", open_sealed, 28},
                  {"etru_pack", pack, 1},
                  {"etru_unpack", unpack, 1},

@@ -43,6 +43,9 @@ def main():
     message = example_message(p.n)
     phi = [1, 0, 0, 1, -1, -1] * (p.s // 3) + [0, 0] * (p.n - p.s)
     e = accepted(reference.call_seal(p, h, phi, message, array))
+    places = [(place, 2 * (place % 3)) for place in reversed(range(p.s))]
+    e_of_places = accepted(reference.call_seal_places(p, h, places, message, array))
+    spread = accepted(reference.call_spread_places(p, places, array))
     opened = accepted(reference.call_open(p, f, f2, e, len(message)))
     sealed = accepted(reference.call_write(reference.SEALED_FILE, p, e, sealed_length))
     refusal, _ = reference.call_seal(p, h, [0, 0] + phi[2:], message, array)
@@ -55,6 +58,10 @@ etru_check_key: 0, nothing is refused
   message = {digits(message)}
 etru_seal: 0, nothing is refused
   e = {first_three(e)}
+etru_seal_places: 0, nothing is refused
+  e is {"the same" if e_of_places == e else "another"}
+etru_spread_places: 0, nothing is refused
+  phi = {first_three(spread)}
 etru_open: 0, nothing is refused
   opened = {digits(opened)}
 etru_write: 0, nothing is refused

@@ -26,6 +26,7 @@ static void expect(const char *what, uint32_t number, uint32_t expected) {
 // f = F2 = Fq = 1 and g = φ = 1 + ωX + (−1 − ω)X² with q = 15, s = 3, t = 1: document 01's small key, at any N.
 static uint32_t n;
 static int32_t one[ARRAY] = {1}, triple[ARRAY] = {1, 0, 0, 1, -1, -1}, h[ARRAY], e[ARRAY], out[ARRAY];
+static struct etru_placed_unit places[] = {{2, 4}, {0, 0}, {1, 2}, {2, 4}};  // φ, and a record more
 static int32_t key[PRIVATE_NUMBERS], numbers[PRIVATE_NUMBERS];
 static uint8_t message[MESSAGE], opened[MESSAGE], line[ETRU_LINE_BYTES + 1];
 static uint8_t public_file[ETRU_PUBLIC_FILE_BYTES(ETRU_MAX_N) + 1];
@@ -41,6 +42,12 @@ static uint32_t check_key(const size_t *k) {
 }
 static uint32_t seal(const size_t *k) {
     return etru_seal(n, 15, 0, 3, 1, h, k[0], triple, k[1], message, k[2], e, k[3]);
+}
+static uint32_t seal_places(const size_t *k) {
+    return etru_seal_places(n, 15, 0, 3, 1, h, k[0], places, k[1], message, k[2], e, k[3]);
+}
+static uint32_t spread_places(const size_t *k) {
+    return etru_spread_places(n, 15, 0, 3, 1, places, k[0], out, k[1]);
 }
 static uint32_t open_sealed(const size_t *k) {
     return etru_open(n, 15, 0, 3, 1, one, k[0], one, k[1], e, k[2], opened, k[3]);
@@ -111,6 +118,8 @@ static void try_lengths(void) {
         {"etru_convolve", convolve, {array, array, array}},
         {"etru_check_key", check_key, {array, array, array, array, array}},
         {"etru_seal", seal, {array, array, bytes, array}},
+        {"etru_seal_places", seal_places, {array, 3, bytes, array}},
+        {"etru_spread_places", spread_places, {3, array}},
         {"etru_open", open_sealed, {array, array, array, bytes}},
         {"etru_pack", pack, {bytes, array}},
         {"etru_unpack", unpack, {array, bytes}},
@@ -151,6 +160,28 @@ static void try_macros(void) {
     EXPECT_OPERAND(ETRU_SEALED_FILE_BYTES);
 }
 
+// ---- Records of places
+
+// The last place and the last unit that the header says, and one more of each. The other two units are those that have
+// the sum zero with unit 5, and stand at the first two places.
+static void try_places(void) {
+    struct etru_placed_unit list[] = {{0, 1}, {1, 3}, {n - 1, 5}};
+    expect("a record is two numbers", sizeof list == 3 * 2 * sizeof(uint32_t), 1);
+    expect("place n - 1, unit 5", etru_spread_places(n, 15, 0, 3, 1, list, 3, out, ETRU_ARRAY_NUMBERS(n)), ETRU_OK);
+    expect("its array", out[2 * n - 2] == 0 && out[2 * n - 1] == -1, 1);
+    list[2].place = n;
+    expect("place n", etru_spread_places(n, 15, 0, 3, 1, list, 3, out, ETRU_ARRAY_NUMBERS(n)),
+           ETRU_PLACE_OR_UNIT_OUT_OF_RANGE);
+    list[2].place = n - 1;
+    list[2].unit = 6;
+    expect("unit 6", etru_spread_places(n, 15, 0, 3, 1, list, 3, out, ETRU_ARRAY_NUMBERS(n)),
+           ETRU_PLACE_OR_UNIT_OUT_OF_RANGE);
+    list[2].unit = 5;
+    list[2].place = 0;
+    expect("place 0 twice", etru_spread_places(n, 15, 0, 3, 1, list, 3, out, ETRU_ARRAY_NUMBERS(n)),
+           ETRU_PLACE_OCCURS_TWICE);
+}
+
 // ---- Limits
 
 static void try_limits(void) {
@@ -184,8 +215,10 @@ static void try_limits(void) {
 int main(void) {
     n = ETRU_MIN_N;
     try_lengths();
+    try_places();
     n = ETRU_MAX_N;
     try_lengths();
+    try_places();
     try_macros();
     try_limits();
     printf("%u passed, %u failed\n", passed, failed);

@@ -1,4 +1,5 @@
-// Checks a key, seals a message with it and opens it again: first as arrays, then as files. Then one refusal.
+// Checks a key, seals a message with it, and opens it again: first as arrays, with the ephemeral as an array and as
+// places, then as files. Then one refusal.
 //
 // Usage: seal_and_open [private-file]
 // Without a file the key is document 01's example. The status is 0 only if each step came out as expected.
@@ -40,12 +41,16 @@ static const char *const conditions[] = {
     [ETRU_PARAMETERS_DIFFER] = "the two files' parameters differ",
     [ETRU_MODULUS_ZERO] = "modulus zero",
     [ETRU_VALUE_OUT_OF_RANGE] = "a part of the value below -2^40 or above 2^40",
+    [ETRU_PLACE_OR_UNIT_OUT_OF_RANGE] = "a place is N or more, or a unit number is above 5",
+    [ETRU_PLACE_OCCURS_TWICE] = "a place occurs twice",
 };
 
 // All memory is the caller's. These have room for the largest N; a call is lent as much of each as its N asks for.
 static int32_t key[ETRU_PRIVATE_FILE_NUMBERS(ETRU_MAX_N)];
 static int32_t h[ETRU_ARRAY_NUMBERS(ETRU_MAX_N)], phi[ETRU_ARRAY_NUMBERS(ETRU_MAX_N)];
 static int32_t e[ETRU_ARRAY_NUMBERS(ETRU_MAX_N)], e_before[ETRU_ARRAY_NUMBERS(ETRU_MAX_N)];
+static struct etru_placed_unit places[ETRU_MAX_N];
+static int32_t spread[ETRU_ARRAY_NUMBERS(ETRU_MAX_N)], e_of_places[ETRU_ARRAY_NUMBERS(ETRU_MAX_N)];
 static uint8_t message[ETRU_MESSAGE_BYTES(ETRU_MAX_N)], opened[ETRU_MESSAGE_BYTES(ETRU_MAX_N)];
 
 // The private file, and directly after it the sealed file.
@@ -101,6 +106,15 @@ static void make_phi(uint32_t s) {
     static const int32_t units[6] = {1, 0, 0, 1, -1, -1};
     for (size_t i = 0; i < 2 * (size_t)s; i++) {
         phi[i] = units[i % 6];
+    }
+}
+
+// The same ephemeral as places: (1,0), (0,1), (-1,-1) are units 0, 2 and 4. The last place comes first, as any order
+// will do.
+static void make_places(uint32_t s) {
+    for (uint32_t i = 0; i < s; i++) {
+        places[s - 1 - i].place = i;
+        places[s - 1 - i].unit = 2 * (i % 3);
     }
 }
 
@@ -163,6 +177,25 @@ int main(int argc, char **argv) {
         return failed("sealing was refused");
     }
     print_coefficients("e", e, n);
+
+    // The ephemeral as places gives the same sealed array, and spreads to phi.
+    make_places(s);
+    number = etru_seal_places(n, c, d, s, t, h, array, places, s, message, message_bytes, e_of_places, array);
+    if (!came_out("etru_seal_places", number, ETRU_OK)) {
+        return failed("sealing from places was refused");
+    }
+    if (memcmp(e_of_places, e, sizeof e) != 0) {
+        return failed("places gave another sealed array");
+    }
+    printf("  e is the same\n");
+    number = etru_spread_places(n, c, d, s, t, places, s, spread, array);
+    if (!came_out("etru_spread_places", number, ETRU_OK)) {
+        return failed("spreading the places was refused");
+    }
+    if (memcmp(spread, phi, sizeof phi) != 0) {
+        return failed("places were spread to another ephemeral");
+    }
+    print_coefficients("phi", spread, n);
 
     number = etru_open(n, c, d, s, t, f, array, f2, array, e, array, opened, message_bytes);
     if (!came_out("etru_open", number, ETRU_OK)) {

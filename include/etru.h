@@ -1,15 +1,15 @@
 // The C interface of Rolphiek: ETRU, NTRU over the Eisenstein integers Z[ω], with p = 2. For C99 and C++.
-// "Document 01" is the specification. Link libetru_c.a, which `rt staticlib etru_c` proves and builds;
-// examples/seal_and_open.c is a program to begin with.
+// "Document 01" is the specification, and "document 02" has the later requests. Link libetru_c.a, which
+// `rt staticlib etru_c` proves and builds; examples/seal_and_open.c is a program to begin with.
 //
 // What a call gives
-//   Each function returns 0, or the number of the first of document 01's refusals that applies, in the order stated at
+//   Each function returns 0, or the number of the first of the documents' refusals that applies, in the order stated at
 //   the function. Outputs are written only when 0 is returned; otherwise each output is as it came.
 //   Any values, contents and counts may be given: what is wrong is refused, and no call relies on its caller's checks.
 //
 // What is lent
-//   An array is lent as a pointer and a count: x and x_count. The count is of numbers or bytes, whichever x points to,
-//   and so many must be there. All memory is the caller's before and after; no call keeps a pointer.
+//   An array is lent as a pointer and a count: x and x_count. The count is of numbers, bytes or records, whichever x
+//   points to, and so many must be there. All memory is the caller's before and after; no call keeps a pointer.
 //   A pointer must be valid (not null, and aligned for its type) even where its count is 0.
 //   An output must not overlap any other argument, and outputs of one number each must be different places.
 //   Inputs, which are const, may overlap each other.
@@ -17,8 +17,8 @@
 // What a call takes
 //   Nothing is allocated, and there is no global state: calls may run in several threads at once, as long as nobody
 //   changes what is lent to a call, or uses its outputs, before it returns. No call depends on an earlier one.
-//   Stack, at every N: etru_open_files at most 72 KiB, etru_open and etru_check_key 28 KiB, etru_seal and etru_read
-//   12 KiB, each other function 1 KiB.
+//   Stack, at every N: etru_open_files at most 72 KiB, etru_seal_places at most 48 KiB, etru_open, etru_check_key and
+//   etru_spread_places at most 28 KiB, etru_seal and etru_read 12 KiB, each other function 1 KiB.
 //   Of the C library at most memcmp, memcpy, memmove and memset are needed.
 //
 // What is not promised
@@ -27,7 +27,8 @@
 //   caller's to draw. What a call leaves on the stack is not wiped.
 //
 // Terms
-//   ω² = −1 − ω, and the pair (a, b) is a + bω. The six units are (1,0), (1,1), (0,1), (−1,0), (−1,−1), (0,−1).
+//   ω² = −1 − ω, and the pair (a, b) is a + bω. The six units are (1,0), (1,1), (0,1), (−1,0), (−1,−1), (0,−1), with
+//   the numbers 0 to 5.
 //   A polynomial is N coefficients, lent as 2N numbers a0, b0, a1, b1 and so on. The product × of two is their
 //   convolution: coefficient i is the sum of products of coefficients j and k with (j + k) mod N = i.
 //   Reduced modulo 2: each coefficient is (0,0), (1,0), (0,1) or (−1,−1).
@@ -44,7 +45,7 @@
 extern "C" {
 #endif
 
-// What is returned: document 01's numbers and conditions.
+// What is returned: the numbers and conditions of document 01, and from 23 on of document 02.
 enum etru_refusal {
     ETRU_OK = 0,                              // nothing is refused
     // Parameters
@@ -76,7 +77,10 @@ enum etru_refusal {
     ETRU_PARAMETERS_DIFFER = 20,              // the two files' parameters differ
     // One value
     ETRU_MODULUS_ZERO = 21,                   // modulus zero
-    ETRU_VALUE_OUT_OF_RANGE = 22              // a part of the value below −2^40 or above 2^40
+    ETRU_VALUE_OUT_OF_RANGE = 22,             // a part of the value below −2^40 or above 2^40
+    // Ephemeral as places
+    ETRU_PLACE_OR_UNIT_OUT_OF_RANGE = 23,     // a place is N or more, or a unit number is above 5
+    ETRU_PLACE_OCCURS_TWICE = 24              // a place occurs twice
 };
 
 // The kinds of file, each with its arrays in stored order.
@@ -188,6 +192,37 @@ uint32_t etru_seal(uint32_t n, int32_t c, int32_t d, uint32_t s, uint32_t t,
 uint32_t etru_open(uint32_t n, int32_t c, int32_t d, uint32_t s, uint32_t t,
                    const int32_t *f, size_t f_count, const int32_t *f2, size_t f2_count,
                    const int32_t *e, size_t e_count, uint8_t *message, size_t message_count);
+
+// ---- An ephemeral as places
+//
+// An ephemeral φ can be lent as the list of its s nonzero coefficients, in any order: one record for each, with its
+// place and the number of its unit. It spreads to the array that has these units at these places, and zeros elsewhere.
+
+struct etru_placed_unit {
+    uint32_t place;  // from 0 to n - 1
+    uint32_t unit;   // from 0 to 5
+};
+
+// Seals a message: e is what etru_seal gives with the array that etru_spread_places gives.
+//   h        ETRU_ARRAY_NUMBERS(n) numbers: the public key, reduced modulo q
+//   places   s records: the ephemeral φ, no place twice, and the sum of the units is zero; the caller draws it for each
+//            message
+//   message  ETRU_MESSAGE_BYTES(n) bytes, the spare bits zero
+//   e        output, ETRU_ARRAY_NUMBERS(n) numbers
+// Refusals in order: 1 to 6; 7 for h, places, message or e; 12 for h; 23 for any record; 24; 10 for the sum; 15 for
+//   message.
+uint32_t etru_seal_places(uint32_t n, int32_t c, int32_t d, uint32_t s, uint32_t t,
+                          const int32_t *h, size_t h_count,
+                          const struct etru_placed_unit *places, size_t places_count,
+                          const uint8_t *message, size_t message_count, int32_t *e, size_t e_count);
+
+// The full array of an ephemeral, as etru_seal takes it.
+//   places  s records: no place twice, and the sum of the units is zero
+//   phi     output, ETRU_ARRAY_NUMBERS(n) numbers
+// Refusals in order: 1 to 6; 7 for places or phi; 23 for any record; 24; 10 for the sum.
+uint32_t etru_spread_places(uint32_t n, int32_t c, int32_t d, uint32_t s, uint32_t t,
+                            const struct etru_placed_unit *places, size_t places_count,
+                            int32_t *phi, size_t phi_count);
 
 // ---- Message bits
 
