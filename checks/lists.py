@@ -1,4 +1,4 @@
-"""Check that what is listed in several places is the same everywhere: refusals, kinds of file, calls, crates.
+"""Check that what is listed in several places is the same everywhere: refusals, kinds of file, records, calls, crates.
 
 Each list is taken from one place, where the library has it. Every other place that lists the same things, or says how
 many they are, is held against it. docs/ARCHITECTURE.md says how one is added.
@@ -25,6 +25,7 @@ import library
 
 REFUSALS = "crates/refusals/src/lib.rt"
 KINDS = "crates/heads/src/kinds.rt"
+RECORDS = "crates/*/src/**/*.rt"
 CALLS = "crates/etru_c/src/lib.rt"
 CRATES = "crates.txt"
 
@@ -196,16 +197,48 @@ def check_kinds(report):
     return len(kinds)
 
 
-# ---- Calls: the exports of `etru_c`, with their arguments
+# ---- Types of what is lent
 
 IN_C = {"u8": "uint8_t", "u32": "uint32_t", "i32": "int32_t", "i64": "int64_t", "usize": "size_t"}
+IN_C["PlacedUnit"] = "struct etru_placed_unit"
 IN_PYTHON = {
     "u8": ctypes.c_uint8,
     "u32": ctypes.c_uint32,
     "i32": ctypes.c_int32,
     "i64": ctypes.c_int64,
     "usize": ctypes.c_size_t,
+    "PlacedUnit": library.PlacedUnit,
 }
+
+
+# ---- Records: the structs that are laid out as in C, with their fields
+
+
+def check_records(report):
+    code = on_one_line("".join(map(text, files(RECORDS))))
+    records = re.findall(r"#\[repr\(C\)\] pub struct (\w+) \{([^}]*)\}", code)
+    report.check(records, f"{RECORDS}: no struct with #[repr(C)] is left to take the records from")
+    for record, declared in records:
+        fields = re.findall(r"pub (\w+): (\w+)", declared)
+
+        place = "include/etru.h"
+        found = on_one_line(between(rf"{IN_C[record]} \{{", r"\};", text(place)))
+        wanted = " ".join(f"{IN_C[number]} {name};" for name, number in fields)
+        report.check(found == wanted, f"{place}: {IN_C[record]} is not as in {RECORDS}: write '{wanted}' and no more")
+
+        place = "bindings/rust/src/lib.rs"
+        pattern = rf"#\[repr\(C\)\] (?:#\[[^\]]*\] )*pub struct {record} \{{([^}}]*)\}}"
+        found = [re.findall(r"pub (\w+): (\w+)", content) for content in re.findall(pattern, on_one_line(text(place)))]
+        wanted = ", ".join(f"pub {name}: {number}" for name, number in fields)
+        report.check(found == [fields], f"{place}: {record} is not as in {RECORDS}: write '{wanted}' below #[repr(C)]")
+
+        place = "reference/library.py"
+        found = [(name, number.__name__) for name, number in IN_PYTHON[record]._fields_]
+        wanted = [(name, IN_PYTHON[number].__name__) for name, number in fields]
+        report.check(found == wanted, f"{place}: {record} is not as in {RECORDS}: write {wanted} as its fields")
+
+
+# ---- Calls: the exports of `etru_c`, with their arguments
 
 
 def arguments(signature):
@@ -391,6 +424,7 @@ def main():
     report = Report()
     refusals = check_refusals(report)
     kinds = check_kinds(report)
+    check_records(report)
     check_calls(report)
     crates, levels = check_crates(report)
     check_edits(report)
