@@ -1,25 +1,28 @@
 //! Safe functions over the ETRU library: NTRU over the Eisenstein integers Z\[ω\], with p = 2.
 //!
 //! The work is done by the static archive `libetru_c.a`, which is written in Rattle and proved to
-//! give exactly what its specification, document 01, says. This crate lends it slices and turns its
-//! refusal numbers into an enum. It makes no claim of secrecy, authentication or constant time.
+//! give exactly what its specification, document 01, and the later requests, document 02, say. This
+//! crate lends it slices and turns its refusal numbers into an enum. It makes no claim of secrecy,
+//! authentication or constant time.
 //!
 //! # Arguments
 //!
 //! A polynomial of N coefficients is an array of 2N numbers a0, b0, a1, b1 and so on; coefficient i
 //! is ai + biω. A message is N/4 bytes, rounded up, highest bit first, and the spare low bits of
-//! its last byte are zero.
+//! its last byte are zero. An ephemeral φ is an array too, or a list of its units with their places
+//! ([`PlacedUnit`]).
 //!
 //! Slices of any length, with any contents, and any numbers may be given: what is wrong is refused.
 //! A call that returns an error leaves the outputs that it was lent as they came. No call panics,
 //! allocates or keeps anything, and any may be made from several threads at once. At every N
-//! [`open_files`] takes at most 72 KiB of stack, [`open`] and [`check_key`] 28 KiB, [`seal`] and [`read`] 12 KiB and
-//! each other call 1 KiB.
+//! [`open_files`] takes at most 72 KiB of stack, [`seal_places`] at most 48 KiB, [`open`],
+//! [`check_key`] and [`spread_places`] at most 28 KiB, [`seal`] and [`read`] 12 KiB and each other
+//! call 1 KiB.
 //!
 //! # Example
 //!
 //! ```
-//! use etru::{Error, Kind, Parameters, Refusal};
+//! use etru::{Error, Kind, Parameters, PlacedUnit, Refusal};
 //!
 //! # fn main() -> Result<(), Error> {
 //! // N = 3, q = 15, s = 3, t = 1; f = F2 = Fq = 1 and g = φ = 1 + ωX + (−1 − ω)X².
@@ -39,6 +42,12 @@
 //! let mut message = [0; etru::message_bytes(3)];
 //! etru::open(p, &one, &one, &e, &mut message)?;
 //! assert_eq!(message, [0xB0]);
+//!
+//! // The same φ as places, in any order, seals to the same array.
+//! let places = [(2, 4), (0, 0), (1, 2)].map(|(place, unit)| PlacedUnit { place, unit });
+//! let mut from_places = [0; etru::array_numbers(3)];
+//! etru::seal_places(p, &h, &places, &[0xB0], &mut from_places)?;
+//! assert_eq!(from_places, e);
 //!
 //! // At N = 3 the last two bits are spare.
 //! let refused = etru::seal(p, &h, &phi, &[0xB1], &mut e);
@@ -85,6 +94,16 @@ pub struct Pair {
     pub a: i32,
     /// The part at ω.
     pub b: i32,
+}
+
+/// One nonzero coefficient of an ephemeral φ that is lent as places.
+#[repr(C)]
+#[derive(Clone, Copy, Debug, PartialEq, Eq, Hash)]
+pub struct PlacedUnit {
+    /// Its place, from 0 to N − 1.
+    pub place: u32,
+    /// The number of its unit, from 0 to 5: (1, 0), (1, 1), (0, 1), (−1, 0), (−1, −1), (0, −1).
+    pub unit: u32,
 }
 
 /// A kind of file, with its number.
@@ -218,6 +237,66 @@ pub fn seal(
             message.len(),
             e.as_mut_ptr(),
             e.len(),
+        )
+    };
+    outcome(number)
+}
+
+/// Seals a message with the public key h and the ephemeral φ as places, s records in any order:
+/// what [`seal`] gives with the array that [`spread_places`] gives, to `e`.
+///
+/// # Errors
+///
+/// Refusals 1 to 6, 7, 12, 23, 24, 10, 15.
+pub fn seal_places(
+    p: Parameters,
+    h: &[i32],
+    places: &[PlacedUnit],
+    message: &[u8],
+    e: &mut [i32],
+) -> Result<(), Error> {
+    // SAFETY: each pointer and count are those of one slice, and `e` is borrowed mutably, so it
+    // overlaps no other. A record is laid out as in C.
+    let number = unsafe {
+        sys::etru_seal_places(
+            p.n,
+            p.c,
+            p.d,
+            p.s,
+            p.t,
+            h.as_ptr(),
+            h.len(),
+            places.as_ptr(),
+            places.len(),
+            message.as_ptr(),
+            message.len(),
+            e.as_mut_ptr(),
+            e.len(),
+        )
+    };
+    outcome(number)
+}
+
+/// The full array of an ephemeral φ as places, s records in any order, to `phi`: each record's unit
+/// at its place, and zeros elsewhere.
+///
+/// # Errors
+///
+/// Refusals 1 to 6, 7, 23, 24, 10.
+pub fn spread_places(p: Parameters, places: &[PlacedUnit], phi: &mut [i32]) -> Result<(), Error> {
+    // SAFETY: each pointer and count are those of one slice, and `phi` is borrowed mutably, so it
+    // overlaps no other. A record is laid out as in C.
+    let number = unsafe {
+        sys::etru_spread_places(
+            p.n,
+            p.c,
+            p.d,
+            p.s,
+            p.t,
+            places.as_ptr(),
+            places.len(),
+            phi.as_mut_ptr(),
+            phi.len(),
         )
     };
     outcome(number)

@@ -1,12 +1,12 @@
-//! Document 01's refusals, and what a call gives that has no result.
+//! The refusals of documents 01 and 02, and what a call gives that has no result.
 
 use std::fmt;
 
 /// Makes the enum of the refusals, and what is told of each, from one list: name, number, and the
-/// condition in document 01's words.
+/// condition in the document's words.
 macro_rules! refusals {
     ($($(#[$more:meta])* $name:ident = $number:literal, $condition:literal;)+) => {
-        /// A refusal of document 01. The names are those of the library.
+        /// A refusal of document 01, or from 23 on of document 02. The names are those of the library.
         #[derive(Clone, Copy, Debug, PartialEq, Eq, Hash)]
         pub enum Refusal {
             $(
@@ -21,7 +21,7 @@ macro_rules! refusals {
             const ALL: &'static [Refusal] = &[$(Refusal::$name),+];
 
             /// The refusal of a number, such as one in the line of
-            /// [`open_files`](crate::open_files); none for 0 and for a number that document 01 does
+            /// [`open_files`](crate::open_files); none for 0 and for a number that the documents do
             /// not have.
             #[must_use]
             pub const fn from_number(number: u32) -> Option<Refusal> {
@@ -31,7 +31,7 @@ macro_rules! refusals {
                 }
             }
 
-            /// The condition, in document 01's words.
+            /// The condition, in the document's words.
             const fn condition(self) -> &'static str {
                 match self {
                     $(Refusal::$name => $condition,)+
@@ -65,10 +65,12 @@ refusals! {
     ParametersDiffer = 20, "the two files' parameters differ";
     ModulusZero = 21, "modulus zero";
     ValueOutOfRange = 22, "a part of the value below −2^40 or above 2^40";
+    PlaceOrUnitOutOfRange = 23, "a place is N or more, or a unit number is above 5";
+    PlaceOccursTwice = 24, "a place occurs twice";
 }
 
 impl Refusal {
-    /// Document 01's number.
+    /// The document's number.
     #[must_use]
     pub const fn number(self) -> u32 {
         self as u32
@@ -86,9 +88,9 @@ impl std::error::Error for Refusal {}
 /// Why a call has no result. Its outputs are as they came.
 #[derive(Clone, Copy, Debug, PartialEq, Eq, Hash)]
 pub enum Error {
-    /// The first refusal that applies, in document 01's order.
+    /// The first refusal that applies, in the documents' order.
     Refused(Refusal),
-    /// A number that document 01 does not have. The library is proved to return none, so a program
+    /// A number that the documents do not have. The library is proved to return none, so a program
     /// that meets this is linked with another archive.
     UnknownNumber(u32),
 }

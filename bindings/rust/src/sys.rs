@@ -1,9 +1,11 @@
 //! The exports of `libetru_c.a`.
 //!
-//! Each returns document 01's refusal number, 0 if nothing is refused, and writes to its outputs
+//! Each returns the documents' refusal number, 0 if nothing is refused, and writes to its outputs
 //! only then. Any lengths, contents and numbers may be given. What a caller has to see to: each
 //! pointer is not null, is aligned and is valid for the count after it, or for one number where it
 //! has none, and no output overlaps another argument.
+
+use crate::PlacedUnit;
 
 extern "C" {
     pub fn etru_reduce_q(a: i64, b: i64, c: i32, d: i32, ra: *mut i32, rb: *mut i32) -> u32;
@@ -58,6 +60,34 @@ extern "C" {
         message_count: usize,
         e: *mut i32,
         e_count: usize,
+    ) -> u32;
+
+    pub fn etru_seal_places(
+        n: u32,
+        c: i32,
+        d: i32,
+        s: u32,
+        t: u32,
+        h: *const i32,
+        h_count: usize,
+        places: *const PlacedUnit,
+        places_count: usize,
+        message: *const u8,
+        message_count: usize,
+        e: *mut i32,
+        e_count: usize,
+    ) -> u32;
+
+    pub fn etru_spread_places(
+        n: u32,
+        c: i32,
+        d: i32,
+        s: u32,
+        t: u32,
+        places: *const PlacedUnit,
+        places_count: usize,
+        phi: *mut i32,
+        phi_count: usize,
     ) -> u32;
 
     pub fn etru_open(

@@ -3,7 +3,7 @@
 
 use std::fmt::Debug;
 
-use etru::{Error, Kind, Pair, Parameters};
+use etru::{Error, Kind, Pair, Parameters, PlacedUnit};
 
 use crate::definitions::{self, Value};
 use crate::drawing::Rng;
@@ -119,6 +119,30 @@ pub fn seal(
 ) -> Result<Vec<i32>, u32> {
     let wanted = definitions::seal(p, h, phi, message, room);
     agree_on_numbers(rng, room, wanted, |e| etru::seal(p, h, phi, message, e))
+}
+
+pub fn seal_places(
+    rng: &mut Rng,
+    p: Parameters,
+    h: &[i32],
+    places: &[PlacedUnit],
+    message: &[u8],
+    room: usize,
+) -> Result<Vec<i32>, u32> {
+    let wanted = definitions::seal_places(p, h, places, message, room);
+    agree_on_numbers(rng, room, wanted, |e| {
+        etru::seal_places(p, h, places, message, e)
+    })
+}
+
+pub fn spread_places(
+    rng: &mut Rng,
+    p: Parameters,
+    places: &[PlacedUnit],
+    room: usize,
+) -> Result<Vec<i32>, u32> {
+    let wanted = definitions::spread_places(p, places, room);
+    agree_on_numbers(rng, room, wanted, |phi| etru::spread_places(p, places, phi))
 }
 
 pub fn open(

@@ -1,7 +1,7 @@
-//! Document 01 in plain Rust, to be obviously right rather than fast. A call gives its value or a
+//! The documents in plain Rust, to be obviously right rather than fast. A call gives its value or a
 //! refusal's number; `room` is the length of the output that it is lent.
 
-use etru::{Kind, Parameters};
+use etru::{Kind, Parameters, PlacedUnit};
 
 // ---- The ring
 
@@ -239,6 +239,52 @@ pub fn seal(
         .map(|(x, m)| add(x, m))
         .collect();
     Ok(array(&all_remainders_q(&sum, q)))
+}
+
+/// Document 02: "a lent list of records, each a place and a unit number".
+fn spread(n: u32, places: &[PlacedUnit]) -> Vec<i32> {
+    let unit_at = |i| match places.iter().find(|record| record.place == i) {
+        Some(record) => UNITS[record.unit as usize],
+        None => (0, 0),
+    };
+    array(&(0..n).map(unit_at).collect::<Vec<Value>>())
+}
+
+/// Refusals 23, 24 and 10, "with 23 first over the whole list".
+fn check_places(p: Parameters, places: &[PlacedUnit]) -> Result<(), u32> {
+    let out_of_range = |record: &PlacedUnit| record.place >= p.n || record.unit > 5;
+    refuse(23, places.iter().any(out_of_range))?;
+    let occurs_again = |(k, record): (usize, &PlacedUnit)| {
+        let later = &places[k + 1..];
+        later.iter().any(|other| other.place == record.place)
+    };
+    refuse(24, places.iter().enumerate().any(occurs_again))?;
+    refuse(10, !units_of_sum_zero(&spread(p.n, places), p.s))
+}
+
+pub fn seal_places(
+    p: Parameters,
+    h: &[i32],
+    places: &[PlacedUnit],
+    message: &[u8],
+    room: usize,
+) -> Result<Vec<i32>, u32> {
+    check_parameters(p)?;
+    refuse(7, places.len() != p.s as usize)?;
+    refuse(7, !all_full(p, &[h.len(), room]))?;
+    refuse(7, message.len() != message_bytes(p.n))?;
+    refuse(12, !reduced_q(h, modulus(p)))?;
+    check_places(p, places)?;
+    // "what sealing from the full array gives"; 15 is left
+    seal(p, h, &spread(p.n, places), message, room)
+}
+
+pub fn spread_places(p: Parameters, places: &[PlacedUnit], room: usize) -> Result<Vec<i32>, u32> {
+    check_parameters(p)?;
+    refuse(7, places.len() != p.s as usize)?;
+    refuse(7, !all_full(p, &[room]))?;
+    check_places(p, places)?;
+    Ok(spread(p.n, places))
 }
 
 pub fn open(p: Parameters, f: &[i32], f2: &[i32], e: &[i32], room: usize) -> Result<Vec<u8>, u32> {

@@ -1,6 +1,6 @@
 //! Document 01's own lines, with the results as it states them.
 
-use etru::{Kind, Pair, Parameters};
+use etru::{Kind, Pair, Parameters, PlacedUnit};
 
 use crate::calls::numbered;
 use crate::definitions::{multiply, norm, UNITS};
@@ -19,6 +19,13 @@ pub const ONE: [i32; 6] = [1, 0, 0, 0, 0, 0];
 
 /// g = φ, and so h: (1,0),(0,1),(−1,−1).
 pub const TRIPLE: [i32; 6] = [1, 0, 0, 1, -1, -1];
+
+/// φ as places.
+pub const PLACES: [PlacedUnit; 3] = [
+    PlacedUnit { place: 0, unit: 0 },
+    PlacedUnit { place: 1, unit: 2 },
+    PlacedUnit { place: 2, unit: 4 },
+];
 
 /// Message byte B0, sealed.
 pub const SEALED: [i32; 6] = [7, 0, -1, 5, -6, -6];
@@ -136,6 +143,29 @@ fn b0_seals_and_opens() {
     let mut message = [77];
     assert_eq!(etru::open(SMALL, &ONE, &ONE, &e, &mut message), Ok(()));
     assert_eq!(message, [0xB0]);
+}
+
+/// "Sealing from this list must give what sealing from the full array gives", and "their order is
+/// open".
+#[test]
+fn b0_seals_from_places_in_every_order() {
+    for order in [
+        [0, 1, 2],
+        [0, 2, 1],
+        [1, 0, 2],
+        [1, 2, 0],
+        [2, 0, 1],
+        [2, 1, 0],
+    ] {
+        let places = order.map(|k| PLACES[k]);
+        let mut e = [77; 6];
+        let given = etru::seal_places(SMALL, &TRIPLE, &places, &[0xB0], &mut e);
+        assert_eq!(given, Ok(()));
+        assert_eq!(e, SEALED);
+        let mut phi = [77; 6];
+        assert_eq!(etru::spread_places(SMALL, &places, &mut phi), Ok(()));
+        assert_eq!(phi, TRIPLE);
+    }
 }
 
 #[test]

@@ -1,8 +1,10 @@
 //! Random numbers, and what is drawn with them.
 
-use etru::Parameters;
+use etru::{Parameters, PlacedUnit};
 
-use crate::definitions::{array, message_bytes, modulus, norm, remainder_q, Value, UNITS};
+use crate::definitions::{
+    array, coefficients, message_bytes, modulus, norm, remainder_q, Value, UNITS,
+};
 
 /// splitmix64.
 pub struct Rng(u64);
@@ -89,6 +91,22 @@ impl Rng {
             units.extend([0, 2, 4].map(|step| UNITS[(first + step) % 6]));
         }
         self.scattered(n, &units)
+    }
+
+    /// The records of an array of zeros and units, in a random order.
+    pub fn places(&mut self, phi: &[i32]) -> Vec<PlacedUnit> {
+        let mut rising: Vec<PlacedUnit> = (0..)
+            .zip(coefficients(phi))
+            .filter_map(|(place, value)| {
+                let unit = UNITS.iter().position(|&unit| unit == value)? as u32;
+                Some(PlacedUnit { place, unit })
+            })
+            .collect();
+        let mut drawn = Vec::new();
+        while !rising.is_empty() {
+            drawn.push(rising.swap_remove(self.index(rising.len())));
+        }
+        drawn
     }
 
     pub fn reduced_q(&mut self, p: Parameters) -> Vec<i32> {

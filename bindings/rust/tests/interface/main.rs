@@ -1,5 +1,5 @@
-//! The crate against document 01: its own lines, each refusal, and random keys, values and files,
-//! held against the definitions in plain Rust.
+//! The crate against the documents: document 01's own lines, each refusal, and random keys, values
+//! and files, held against the definitions in plain Rust.
 
 mod calls;
 mod definitions;

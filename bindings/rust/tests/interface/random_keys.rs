@@ -1,5 +1,5 @@
-//! Random keys, each with several messages: key check, sealing, opening, packing, the three files
-//! and the program's line.
+//! Random keys, each with several messages: key check, sealing from an array and from places,
+//! opening, packing, the three files and the program's line.
 
 use etru::{Kind, Parameters};
 
@@ -27,6 +27,11 @@ fn one_key(rng: &mut Rng, key: &Key) {
 
         let phi = rng.units_of_sum_zero(n, p.s);
         let e = calls::seal(rng, p, &h, &phi, &message, length).expect("all is in its set");
+        let places = rng.places(&phi);
+        let from_places = calls::seal_places(rng, p, &h, &places, &message, length);
+        assert_eq!(from_places.as_ref(), Ok(&e));
+        let spread = calls::spread_places(rng, p, &places, length);
+        assert_eq!(spread.as_ref(), Ok(&phi));
         let opened = calls::open(rng, p, &key.f, &key.f2, &e, message.len());
         assert_eq!(opened.as_ref(), Ok(&message));
 

@@ -1,10 +1,10 @@
-//! Each of document 01's refusals: its name, its number, and outputs left as they came.
+//! Each refusal of the documents: its name, its number, and outputs left as they came.
 
 use std::fmt::Debug;
 
-use etru::{Error, Kind, Parameters, Refusal};
+use etru::{Error, Kind, Parameters, PlacedUnit, Refusal};
 
-use crate::document_01::{private_file, ONE, SEALED, SEALED_FILE, SMALL, TRIPLE};
+use crate::document_01::{private_file, ONE, PLACES, SEALED, SEALED_FILE, SMALL, TRIPLE};
 
 fn is_refused<T: Debug + PartialEq>(given: Result<T, Error>, refusal: Refusal, number: u32) {
     assert_eq!(given, Err(Error::Refused(refusal)));
@@ -14,6 +14,29 @@ fn is_refused<T: Debug + PartialEq>(given: Result<T, Error>, refusal: Refusal, n
     assert!(error
         .to_string()
         .starts_with(&format!("refusal {number}: ")));
+}
+
+/// Sealing from places and spreading refuse a list alike.
+fn seal_and_spread_are_refused(places: &[PlacedUnit], refusal: Refusal, number: u32) {
+    let mut out = [77; 6];
+    is_refused(
+        etru::seal_places(SMALL, &TRIPLE, places, &[0xB0], &mut out),
+        refusal,
+        number,
+    );
+    is_refused(
+        etru::spread_places(SMALL, places, &mut out),
+        refusal,
+        number,
+    );
+    assert_eq!(out, [77; 6]);
+}
+
+fn places(places: [u32; 3], units: [u32; 3]) -> [PlacedUnit; 3] {
+    [0, 1, 2].map(|k| PlacedUnit {
+        place: places[k],
+        unit: units[k],
+    })
 }
 
 /// Each call on a parameter set refuses it alike.
@@ -33,6 +56,16 @@ fn parameters_are_refused(p: Parameters, refusal: Refusal, number: u32) {
     );
     is_refused(
         etru::seal(p, &TRIPLE, &TRIPLE, &[0xB0], &mut numbers),
+        refusal,
+        number,
+    );
+    is_refused(
+        etru::seal_places(p, &TRIPLE, &PLACES, &[0xB0], &mut numbers),
+        refusal,
+        number,
+    );
+    is_refused(
+        etru::spread_places(p, &PLACES, &mut numbers),
         refusal,
         number,
     );
@@ -153,6 +186,11 @@ fn refusal_07_wrong_length() {
             refusal,
             7,
         );
+        is_refused(
+            etru::seal_places(SMALL, wrong, &PLACES, &[0xB0], &mut out),
+            refusal,
+            7,
+        );
         assert_eq!(out, [77; 6]);
         let mut message = [77];
         is_refused(
@@ -192,6 +230,12 @@ fn refusal_07_wrong_length() {
             refusal,
             7,
         );
+        is_refused(
+            etru::seal_places(SMALL, &TRIPLE, &PLACES, &[0xB0], &mut out),
+            refusal,
+            7,
+        );
+        is_refused(etru::spread_places(SMALL, &PLACES, &mut out), refusal, 7);
         is_refused(etru::pack(3, &[0xB0], &mut out), refusal, 7);
         is_refused(etru::read(Kind::Sealed, &SEALED_FILE, &mut out), refusal, 7);
         assert_eq!(out, vec![77; length]);
@@ -201,6 +245,11 @@ fn refusal_07_wrong_length() {
         let mut out = [77; 6];
         is_refused(
             etru::seal(SMALL, &TRIPLE, &TRIPLE, wrong, &mut out),
+            refusal,
+            7,
+        );
+        is_refused(
+            etru::seal_places(SMALL, &TRIPLE, &PLACES, wrong, &mut out),
             refusal,
             7,
         );
@@ -214,6 +263,10 @@ fn refusal_07_wrong_length() {
         );
         is_refused(etru::unpack(3, &ONE, &mut message), refusal, 7);
         assert_eq!(message, vec![77; length]);
+    }
+    let records = [PLACES, PLACES].concat();
+    for length in [0, 1, 2, 4, 6] {
+        seal_and_spread_are_refused(&records[..length], refusal, 7);
     }
     for length in [0, 16, 27, 29] {
         let mut file = vec![77; length];
@@ -303,6 +356,10 @@ fn refusal_10_phi_not_in_its_set() {
         is_refused(given, Refusal::PhiNotInItsSet, 10);
         assert_eq!(e, [77; 6]);
     }
+    for units in [[0, 0, 0], [0, 2, 3], [5, 2, 4]] {
+        let places = places([0, 1, 2], units);
+        seal_and_spread_are_refused(&places, Refusal::PhiNotInItsSet, 10);
+    }
 }
 
 #[test]
@@ -348,6 +405,11 @@ fn refusal_12_not_reduced_modulo_q() {
             refusal,
             12,
         );
+        is_refused(
+            etru::seal_places(SMALL, &x, &PLACES, &[0xB0], &mut out),
+            refusal,
+            12,
+        );
         assert_eq!(out, [77; 6]);
         let mut message = [77];
         is_refused(etru::open(SMALL, &ONE, &ONE, &x, &mut message), refusal, 12);
@@ -385,6 +447,11 @@ fn refusal_15_spare_bit_set() {
         let mut out = [77; 6];
         is_refused(
             etru::seal(SMALL, &TRIPLE, &TRIPLE, &[byte], &mut out),
+            refusal,
+            15,
+        );
+        is_refused(
+            etru::seal_places(SMALL, &TRIPLE, &PLACES, &[byte], &mut out),
             refusal,
             15,
         );
@@ -475,6 +542,62 @@ fn refusal_22_value_out_of_range() {
             is_refused(etru::reduce_2(a, b), refusal, 22);
         }
     }
+}
+
+#[test]
+fn refusal_23_place_or_unit_out_of_range() {
+    let refusal = Refusal::PlaceOrUnitOutOfRange;
+    for k in 0..3 {
+        for place in [3, 4, 1024, 1 << 16, 1 << 31, u32::MAX] {
+            let mut list = PLACES;
+            list[k].place = place;
+            seal_and_spread_are_refused(&list, refusal, 23);
+        }
+        // the same unit modulo 6 too
+        for unit in [6, 7, PLACES[k].unit + 6, 256, 1 << 31, u32::MAX] {
+            let mut list = PLACES;
+            list[k].unit = unit;
+            seal_and_spread_are_refused(&list, refusal, 23);
+        }
+    }
+}
+
+#[test]
+fn refusal_24_place_occurs_twice() {
+    let refusal = Refusal::PlaceOccursTwice;
+    for at in [[0, 0, 1], [0, 1, 0], [1, 0, 0], [2, 2, 2]] {
+        for units in [[0, 2, 4], [0, 0, 0], [0, 3, 3], [5, 2, 2]] {
+            seal_and_spread_are_refused(&places(at, units), refusal, 24);
+        }
+    }
+}
+
+/// Document 02: 23 and 24 stand "both after h's check and before 10, with 23 first over the whole
+/// list".
+#[test]
+fn the_first_refusal_of_places_is_given() {
+    let check = |h: &[i32], places: &[PlacedUnit], refusal: Refusal, number| {
+        let mut e = [77; 6];
+        let given = etru::seal_places(SMALL, h, places, &[0xB1], &mut e);
+        is_refused(given, refusal, number);
+        assert_eq!(e, [77; 6]);
+    };
+    // the sum of the units is zero in none of these lists
+    let all = places([0, 0, 3], [0, 0, 0]);
+    check(&[9; 6], &all[..2], Refusal::WrongLength, 7);
+    check(&[9; 6], &all, Refusal::NotReducedModuloQ, 12);
+    for [i, j, k] in [[0, 1, 2], [1, 2, 0], [2, 0, 1]] {
+        // the place that occurs twice stands before the wrong record, around it or after it
+        let list = [all[i], all[j], all[k]];
+        check(&TRIPLE, &list, Refusal::PlaceOrUnitOutOfRange, 23);
+    }
+    let wrong_unit = places([0, 0, 1], [0, 6, 0]);
+    check(&TRIPLE, &wrong_unit, Refusal::PlaceOrUnitOutOfRange, 23);
+    let twice = places([0, 1, 0], [0, 0, 0]);
+    check(&TRIPLE, &twice, Refusal::PlaceOccursTwice, 24);
+    let not_zero = places([0, 1, 2], [0, 0, 0]);
+    check(&TRIPLE, &not_zero, Refusal::PhiNotInItsSet, 10);
+    check(&TRIPLE, &PLACES, Refusal::SpareBitSet, 15);
 }
 
 /// "One value modulo q: 2, 21, 22", and "Key check: 8, 11, 12, 9, 13, 14".

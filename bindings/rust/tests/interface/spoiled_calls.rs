@@ -3,7 +3,7 @@
 
 use std::collections::BTreeSet;
 
-use etru::{Kind, Parameters};
+use etru::{Kind, Parameters, PlacedUnit};
 
 use crate::calls;
 use crate::definitions::{file_bytes, file_numbers, message_bytes};
@@ -19,6 +19,7 @@ struct Arguments {
     g: Vec<i32>,
     h: Vec<i32>,
     phi: Vec<i32>,
+    places: Vec<PlacedUnit>,
     m: Vec<i32>,
     message: Vec<u8>,
     e: Vec<i32>,
@@ -30,6 +31,7 @@ struct Arguments {
 impl Arguments {
     fn draw(rng: &mut Rng, key: &Key) -> Arguments {
         let (p, n) = (key.p, key.p.n);
+        let phi = rng.units_of_sum_zero(n, p.s);
         Arguments {
             p,
             f: key.f.clone(),
@@ -37,7 +39,8 @@ impl Arguments {
             fq: key.fq.clone(),
             g: key.g.clone(),
             h: rng.reduced_q(p),
-            phi: rng.units_of_sum_zero(n, p.s),
+            places: rng.places(&phi),
+            phi,
             m: rng.reduced_2(n),
             message: rng.message(n),
             e: rng.reduced_q(p),
@@ -73,6 +76,9 @@ impl Arguments {
                 spoil_array(rng, array);
             }
         }
+        for _ in 0..rng.index(3) {
+            spoil_places(rng, p.n, &mut self.places);
+        }
         if rng.once_in(4) {
             spoil_message(rng, &mut self.message);
         }
@@ -104,6 +110,20 @@ fn spoil_array(rng: &mut Rng, array: &mut Vec<i32>) {
         1 => array.push(0),
         2 => array[place] = rng.one_of(&[i32::MAX, i32::MIN, 65537, -65535, 4096]),
         _ => array[place] = rng.one_of(&[-2, -1, 0, 1, 2]),
+    }
+}
+
+fn spoil_places(rng: &mut Rng, n: u32, places: &mut Vec<PlacedUnit>) {
+    let k = rng.index(places.len());
+    match rng.index(10) {
+        0 => places.truncate(places.len() - 1),
+        1 => places.push(places[k]),
+        2 => places[k].place = rng.one_of(&[n, n + 1, 1024, 65536, u32::MAX]),
+        3 => places[k].unit = rng.one_of(&[6, 7, 11, 256, 65537, 1 << 31, u32::MAX]),
+        // a place that may be another one's, and a unit that may be another
+        4 | 5 => places[k].place = rng.count(0, n),
+        6 => places[k] = rng.one_of(places),
+        _ => places[k].unit = rng.count(0, 6),
     }
 }
 
@@ -157,6 +177,21 @@ fn check_key() {
 fn seal() {
     run(23, (0..=7).chain([10, 12, 15]), |rng, a| {
         calls::seal(rng, a.p, &a.h, &a.phi, &a.message, a.room)
+    });
+}
+
+#[test]
+fn seal_places() {
+    let numbers = (0..=7).chain([10, 12, 15, 23, 24]);
+    run(34, numbers, |rng, a| {
+        calls::seal_places(rng, a.p, &a.h, &a.places, &a.message, a.room)
+    });
+}
+
+#[test]
+fn spread_places() {
+    run(35, (0..=7).chain([10, 23, 24]), |rng, a| {
+        calls::spread_places(rng, a.p, &a.places, a.room)
     });
 }
 
