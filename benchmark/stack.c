@@ -92,7 +92,7 @@ int main(void) {
                  {"etru_convolve", convolve, 1},
                  {"etru_check_key", check_key, 28},
                  {"etru_seal", seal, 12},
-                 {"etru_seal_places", seal_places, 48},
+                 {"etru_seal_places", seal_places, 36},
                  {"etru_spread_places", spread_places, 28},
                  {"etru_open", open_sealed, 28},
                  {"etru_pack", pack, 1},

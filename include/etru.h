@@ -17,8 +17,8 @@
 // What a call takes
 //   Nothing is allocated, and there is no global state: calls may run in several threads at once, as long as nobody
 //   changes what is lent to a call, or uses its outputs, before it returns. No call depends on an earlier one.
-//   Stack, at every N: etru_open_files at most 72 KiB, etru_seal_places at most 48 KiB, etru_open, etru_check_key and
-//   etru_spread_places at most 28 KiB, etru_seal and etru_read 12 KiB, each other function 1 KiB.
+//   Stack, at every N: etru_open_files at most 72 KiB, etru_seal_places 36 KiB, etru_open, etru_check_key and
+//   etru_spread_places 28 KiB, etru_seal and etru_read 12 KiB, each other function 1 KiB.
 //   Of the C library at most memcmp, memcpy, memmove and memset are needed.
 //
 // What is not promised

@@ -5,6 +5,7 @@ The last line is 'N passed, M failed'; the exit status is 1 if anything failed.
 """
 
 import argparse
+import copy
 import random
 import sys
 
@@ -30,6 +31,18 @@ class Results:
             self.failed += 1
             if self.failed <= 20:
                 print(f"FAILED {what}: got {got}, wanted {wanted}")
+
+
+class Changeable:
+    """The arguments of a call, some of them arrays by name, of which changed copies are made."""
+
+    def but(self, **changes):
+        changed = copy.copy(self)
+        changed.__dict__.update(changes)
+        return changed
+
+    def with_array(self, name, numbers):
+        return self.but(arrays={**self.arrays, name: numbers})
 
 
 def outputs_after(outcome, before):

@@ -15,7 +15,7 @@ import tempfile
 import time
 
 import etru_reference as reference
-from compare import HIGH32, LOW32, Results
+from compare import HIGH32, LOW32, Changeable, Results
 from compare import array_changes, at, in_array, outputs_after, parameter_spoils, spoiled_in_order
 from etru_reference import PRIVATE_FILE, PUBLIC_FILE, SEALED_FILE
 from keys import KEY_MODULI, ONE, SEALED, SMALL, TRIPLE, Key
@@ -37,7 +37,7 @@ KINDS = sorted(reference.KINDS)
 NO_KIND = KINDS[-1] + 1
 
 
-class File:
+class File(Changeable):
     """The parts of a file, and the kind and the rooms that a call on it is given."""
 
     def __init__(self, kind, p, arrays):
@@ -49,14 +49,6 @@ class File:
         self.wanted = kind
         self.number_room = len(self.numbers())
         self.byte_room = 16 + 2 * self.number_room
-
-    def but(self, **changes):
-        changed = copy.copy(self)
-        changed.__dict__.update(changes)
-        return changed
-
-    def with_array(self, name, numbers):
-        return self.but(arrays={**self.arrays, name: numbers})
 
     def numbers(self):
         return [number for array in self.arrays.values() for number in array]

@@ -5,13 +5,12 @@ The last line is 'N passed, M failed'; the exit status is 1 if anything failed.
 """
 
 import argparse
-import copy
 import itertools
 import random
 import sys
 
 import etru_reference as reference
-from compare import HIGH32, LOW32, Results
+from compare import HIGH32, LOW32, Changeable, Results
 from compare import array_changes, in_array, outputs_after, parameter_spoils, spoiled_in_order
 from etru_reference import UNITS
 from keys import SEALED, SMALL, TRIPLE, Key
@@ -32,21 +31,13 @@ def held_before(rng, room):
     return [rng.randint(LOW32, HIGH32) for _ in range(room)]
 
 
-class Case:
+class Case(Changeable):
     """The arguments of one call: a parameter set, the inputs by name, and the room of the output."""
 
     def __init__(self, call, p, inputs):
         self.call, self.n, self.q, self.s, self.t = call, p.n, p.q, p.s, p.t
         self.arrays = {name: inputs[name] for name in CALLS[call]}
         self.room = 2 * p.n
-
-    def but(self, **changes):
-        changed = copy.copy(self)
-        changed.__dict__.update(changes)
-        return changed
-
-    def with_array(self, name, numbers):
-        return self.but(arrays={**self.arrays, name: numbers})
 
     def places(self):
         return self.arrays["places"]

@@ -15,8 +15,8 @@
 //! Slices of any length, with any contents, and any numbers may be given: what is wrong is refused.
 //! A call that returns an error leaves the outputs that it was lent as they came. No call panics,
 //! allocates or keeps anything, and any may be made from several threads at once. At every N
-//! [`open_files`] takes at most 72 KiB of stack, [`seal_places`] at most 48 KiB, [`open`],
-//! [`check_key`] and [`spread_places`] at most 28 KiB, [`seal`] and [`read`] 12 KiB and each other
+//! [`open_files`] takes at most 72 KiB of stack, [`seal_places`] 36 KiB, [`open`],
+//! [`check_key`] and [`spread_places`] 28 KiB, [`seal`] and [`read`] 12 KiB and each other
 //! call 1 KiB.
 //!
 //! # Example

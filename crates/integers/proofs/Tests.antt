@@ -60,3 +60,7 @@ are-equal-5 a a′ b b′ c c′ d d′ e e′ t =
 pub neither-first : (p r : Bool) → (p || r) ≡ false → p ≡ false
 neither-first true r e = e
 neither-first false r e = refl
+
+pub neither-second : (p r : Bool) → (p || r) ≡ false → r ≡ false
+neither-second true r e = cc
+neither-second false r e = e

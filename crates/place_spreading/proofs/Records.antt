@@ -9,7 +9,7 @@ use borrow.Author.Tests.{eq-eqb, ne-eqb}
 use lib.Dec.{eqb}
 use lib.IntN.{ℤ, pos}
 use lib.ListN.{length, getD, set, take, replicate}
-use Rattle.eisenstein.specs.Values.{ℤ[ω], value, 𝟘, unit}
+use Rattle.eisenstein.specs.Values.{ℤ[ω], value, unit}
 use Rattle.polynomials.specs.Polynomials.{coefficient, array, nonzero}
 use Rattle.polynomials.proofs.Arrays.{coefficient-array, array-length, array-by-coefficients, stored-at, stored-elsewhere}
 use Rattle.arrays.specs.Arrays.{Zeros}

@@ -2,13 +2,13 @@
 use mathlib.Core.Path.{_≡_, refl, sym, _∙_, ap}
 use mathlib.Core.Bool.{Bool, true, false, not, _&&_}
 use mathlib.Core.List.{List, _∷_}
-use Prim.Native.Nat.{ℕ, _≤_, _<_}
+use Prim.Native.Nat.{ℕ, _<_}
 use native.Mathlib.Omega.{arith}
 use borrow.Author.Tests.{leb-true, leb-false, ne-eqb}
 use lib.Dec.{eqb, leb}
 use lib.IntN.{ℤ}
 use lib.ListN.{length}
-use Rattle.refusals.specs.Outcomes.{Check, Outcome, refused, outcome, _if_, Passes}
+use Rattle.refusals.specs.Outcomes.{Check, outcome, _if_, Passes}
 use Rattle.refusals.proofs.Checks.{fails-refused, same-first}
 use Rattle.parameters.specs.Sets.{ParameterSet, parameterChecks}
 use Rattle.parameters.proofs.AcceptedParameters.{accepted-parameters}
@@ -18,6 +18,10 @@ use Rattle.placed_units.specs.declared.PlacedUnit.{PlacedUnit}
 use Rattle.placed_units.specs.Layout.{recordsFrom, numbersOf}
 use Rattle.placed_units.proofs.Layouts.{records-length, records-of-numbers}
 use Rattle.placed_ephemerals.specs.Calls.{spreadingChecks, spreading, placesSealingChecks, placesSealing}
+
+pub and-false : (t : Bool) → (t && false) ≡ false
+and-false true = refl
+and-false false = refl
 
 module _ (p : ParameterSet) (places : List PlacedUnit) where
   abbrev laid : List PlacedUnit
@@ -52,10 +56,6 @@ module _ (p : ParameterSet) (places : List PlacedUnit) where
       lengths : Bool → Bool
       lengths t = eqb (length message) (messageBytes (p .N)) && (t && (full (p .N) (length h) && full (p .N) room))
 
-      no-list : (u : Bool) → (u && false) ≡ false
-      no-list true = refl
-      no-list false = refl
-
       go : (t : Bool) → leb (length places) 1024 ≡ t → placesSealing p h laid message room ≡ placesSealing p h places message room
       go true e = ap (λ (l : List PlacedUnit). placesSealing p h l message room) (records-of-numbers 1024 places (leb-true (length places) 1024 e))
-      go false e = same-first (parameterChecks p) _ _ _ _ (λ accepted. both-7 (leb-false (length places) 1024 e) accepted lengths (no-list (eqb (length message) (messageBytes (p .N)))) _ _ _ _)
+      go false e = same-first (parameterChecks p) _ _ _ _ (λ accepted. both-7 (leb-false (length places) 1024 e) accepted lengths (and-false (eqb (length message) (messageBytes (p .N)))) _ _ _ _)

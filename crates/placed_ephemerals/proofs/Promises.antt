@@ -4,22 +4,22 @@ use mathlib.Core.Bool.{Bool, true, false, not, _&&_, _||_}
 use mathlib.Core.List.{List, [], _∷_, _++_}
 use Prim.Native.Nat.{ℕ, _*_, _<_}
 use native.Mathlib.Omega.{arith}
-use borrow.Author.Tests.{eq-eqb, not-true}
+use borrow.Author.Tests.{eq-eqb}
 use lib.Dec.{T, eqb}
 use lib.IntN.{ℤ}
 use lib.ListN.{length}
 use mir.Facts.{and-yes}
 use Rattle.integers.proofs.Tests.{equal-2, are-equal-2, are-equal-4}
-use Rattle.refusals.specs.Outcomes.{Check, Outcome, done, unless, outcome, _if_}
+use Rattle.refusals.specs.Outcomes.{Check, done, unless, outcome, _if_}
 use Rattle.refusals.proofs.Checks.{refused-by, passed, holds-passed, none-left, passed-all, same-first, done-all, done-passed, done-holds, done-value}
 use Rattle.eisenstein.specs.Values.{units}
-use Rattle.eisenstein.proofs.Equality.{is-true}
 use Rattle.parameters.specs.Sets.{ParameterSet, parameterChecks}
 use Rattle.polynomials.specs.Polynomials.{Polynomial, coefficient, array, count, nonzero, among, unitsOnly, unitsOfSumZero, reducedQ}
 use Rattle.polynomials.proofs.Arrays.{coefficient-array, array-length, array-same, array-coefficients}
 use Rattle.polynomials.proofs.Members.{all-at, units-count, sum-zero-units}
 use Rattle.arrays.specs.Arrays.{full}
 use Rattle.packing.specs.Messages.{messageBytes, packed, spareBitSet}
+use Rattle.packing.proofs.RoundTrips.{is-unset}
 use Rattle.etru.specs.Scheme.{sealed}
 use Rattle.etru.specs.Calls.{sealingChecks, sealing}
 use Rattle.etru.specs.Demand3.{Ephemeral}
@@ -28,7 +28,7 @@ use Rattle.placed_units.specs.PlacedUnits.{anyOutOfRange, anyPlaceTwice, spread
 use Rattle.placed_units.proofs.Orders.{length-order, out-of-range-order, twice-order, spread-order}
 use Rattle.placed_units.proofs.PlacesOf.{placesBelow, places-length, places-once, places-in-range, places-spread}
 use Rattle.placed_ephemerals.specs.Calls.{placeChecks, spreadingChecks, spreading, placesSealingChecks, placesSealing}
-use Rattle.placed_ephemerals.specs.Promises.{Spreadable, Sealing-from-places, SameRecords, Spreading-order-open, Sealing-order-open, PlacedEphemeral, Spreading-accepts, Spreading-accepted, Sealing-accepted, Places, Every-ephemeral-has-places}
+use Rattle.placed_ephemerals.specs.Promises.{Sealing-from-places, SameRecords, Spreading-order-open, Sealing-order-open, PlacedEphemeral, Spreading-accepts, Spreading-accepted, Sealing-accepted, Every-ephemeral-has-places}
 use Rattle.placed_ephemerals.proofs.Agreeing.{same-set, same-sealed}
 
 -- ---- outcomes
@@ -47,16 +47,13 @@ agrees N x i l = sym (coefficient-array N x i l)
 pub array-in-set : (N s : ℕ) (x : Polynomial) → unitsOfSumZero N s x ≡ unitsOfSumZero N s (coefficient (array N x))
 array-in-set N s x = same-set N (agrees N x) s
 
-unset : (t : Bool) → T (not t) → t ≡ false
-unset t h = not-true t (is-true (not t) h)
-
 pub sealing-from-places : Sealing-from-places
 unfolding placesSealing placesSealingChecks sealing sealingChecks
 sealing-from-places p h places message room ok =
     same-first (parameterChecks p) _ _ _ _ (λ accepted.
     ap (λ (t : Bool). outcome (7 if not t ∷ 12 if not (reducedQ (p .N) (p .q) (coefficient h)) ∷ placeChecks p places ++ (15 if spareBitSet (p .N) message ∷ [])) (array (p .N) (sealed p (coefficient h) (spread places) (packed message)))) lengths
     ∙ behind 7 _ _ _ _ _ (behind 12 _ _ _ _ _
-    (passed 23 _ _ (unset (anyOutOfRange (p .N) places) (ok .in-range)) ∙ passed 24 _ _ (unset (anyPlaceTwice places) (ok .once))
+    (passed 23 _ _ (is-unset (anyOutOfRange (p .N) places) (ok .in-range)) ∙ passed 24 _ _ (is-unset (anyPlaceTwice places) (ok .once))
     ∙ ap₂ (λ (t : Bool) (e : List ℤ). outcome (10 if not t ∷ 15 if spareBitSet (p .N) message ∷ []) e) (array-in-set (p .N) (p .s) (spread places)) (same-sealed p (coefficient h) (packed message) (agrees (p .N) (spread places))))))
   where
     lengths : (eqb (length message) (messageBytes (p .N)) && (eqb (length places) (p .s) && (full (p .N) (length h) && full (p .N) room)))
@@ -118,8 +115,8 @@ unfolding spreading spreadingChecks
 spreading-accepts p places accepted ok =
     passed-all (parameterChecks p) _ _ accepted
     ∙ holds-passed 7 (eqb (length places) (p .s) && full (p .N) (2 * p .N)) _ _ (equal-2 {b = 2 * p .N} (ok .spreadable .records) refl)
-    ∙ passed 23 _ _ (unset (anyOutOfRange (p .N) places) (ok .spreadable .in-range))
-    ∙ passed 24 _ _ (unset (anyPlaceTwice places) (ok .spreadable .once))
+    ∙ passed 23 _ _ (is-unset (anyOutOfRange (p .N) places) (ok .spreadable .in-range))
+    ∙ passed 24 _ _ (is-unset (anyPlaceTwice places) (ok .spreadable .once))
     ∙ holds-passed 10 (unitsOfSumZero (p .N) (p .s) (spread places)) _ _ (ok .in-set)
     ∙ none-left _
 

@@ -1,21 +1,17 @@
 -- A list of records and the polynomial that it spreads to: a place is taken where a coefficient is not zero.
-use mathlib.Core.Path.{_≡_, refl, sym, _∙_, ap, subst}
+use mathlib.Core.Path.{_≡_, refl, _∙_, ap}
 use mathlib.Core.Bool.{Bool, true, false, not, cond, _||_}
 use mathlib.Core.List.{List, [], _∷_}
 use Prim.Native.Nat.{ℕ, _≤_, _<_}
 use native.Mathlib.Omega.{arith}
 use borrow.Author.Tests.{ltb-true, ltb-false, not-false}
-use lib.Dec.{T, eqb, ltb}
-use Rattle.integers.proofs.Tests.{every, every-at, neither-first}
+use lib.Dec.{eqb, ltb}
+use Rattle.integers.proofs.Tests.{every-at, neither-first, neither-second}
 use Rattle.eisenstein.specs.Values.{𝟘, unit, same, sameℤ}
 use Rattle.eisenstein.proofs.Equality.{is-true}
 use Rattle.polynomials.specs.Polynomials.{nonzero}
 use Rattle.placed_units.specs.declared.PlacedUnit.{PlacedUnit}
 use Rattle.placed_units.specs.PlacedUnits.{outOfRange, anyOutOfRange, occurs, spread}
-
-pub neither-second : (p r : Bool) → (p || r) ≡ false → r ≡ false
-neither-second true r e = cc
-neither-second false r e = e
 
 unit-nonzero : (k : ℕ) → k ≤ 5 → nonzero (unit k) ≡ true
 unfolding nonzero unit same sameℤ

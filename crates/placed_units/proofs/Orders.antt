@@ -1,17 +1,16 @@
 -- The same records in another order: what is asked of a list, and what it spreads to, is the same.
 use mathlib.Core.Path.{_≡_, refl, sym, _∙_, ap, ap₂, subst}
 use mathlib.Core.Bool.{Bool, true, false, cond, _||_}
-use mathlib.Core.List.{List, [], _∷_, List·Permᴰ, List·Permᴰ·nil, List·Permᴰ·cons, List·Permᴰ·swap, List·Permᴰ·trans}
+use mathlib.Core.List.{List, _∷_, List·Permᴰ, List·Permᴰ·nil, List·Permᴰ·cons, List·Permᴰ·swap, List·Permᴰ·trans}
 use Prim.Native.Nat.{ℕ, suc}
 use native.Mathlib.Decide.{ℕ-discrete}
 use borrow.Author.Tests.{eqb-true, eq-eqb, ne-eqb}
 use lib.Dec.{T, eqb}
 use lib.ListN.{length}
-use Rattle.integers.proofs.Tests.{neither-first}
+use Rattle.integers.proofs.Tests.{neither-first, neither-second}
 use Rattle.eisenstein.specs.Values.{ℤ[ω], unit}
 use Rattle.placed_units.specs.declared.PlacedUnit.{PlacedUnit}
 use Rattle.placed_units.specs.PlacedUnits.{outOfRange, anyOutOfRange, occurs, anyPlaceTwice, spread}
-use Rattle.placed_units.proofs.Lists.{neither-second}
 
 or-swap : (x y z : Bool) → (x || (y || z)) ≡ (y || (x || z))
 or-swap true true z = refl

@@ -1,21 +1,18 @@
 -- `has_lengths` meets its contract.
-use mathlib.Core.Path.{_≡_, refl, sym, _∙_, ap, ap₂}
+use mathlib.Core.Path.{_≡_, refl, sym, _∙_, ap}
 use mathlib.Core.Bool.{Bool, true, false, _&&_}
 use borrow.Author.Needs.{needs}
 use borrow.Author.Tests.{eq-eqb, ne-eqb}
 use lib.Dec.{eqb}
 use Rattle.arrays.specs.Arrays.{full}
 use Rattle.packing.specs.Messages.{messageBytes}
+use Rattle.placed_ephemerals.proofs.Layouts.{and-false}
 use Rattle.place_sealing.proofs.spread.has_lengths.Statement.{statement}
 use Rattle.place_sealing.proofs.spread.has_lengths.Tie as tie
 
 twice : (t : Bool) → (t && t) ≡ t
 twice true = refl
 twice false = refl
-
-and-false : (t : Bool) → (t && false) ≡ false
-and-false true = refl
-and-false false = refl
 
 abbrev message-there : tie.Start → Bool
 message-there s = eqb (s .args .message) (messageBytes (s .args .n))

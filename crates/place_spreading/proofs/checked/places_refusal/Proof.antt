@@ -1,23 +1,22 @@
 -- `places_refusal` meets its contract: 23 of the whole list, then 24, then 10 of the array.
 use mathlib.Core.Path.{_≡_, sym, _∙_, ap}
-use mathlib.Core.Bool.{Bool, true, false, not}
+use mathlib.Core.Bool.{Bool, false, not}
 use mathlib.Core.List.{List, [], _∷_}
 use Prim.Native.Nat.{_≤_}
 use native.Mathlib.Omega.{arith}
 use borrow.Author.Needs.{needs}
 use borrow.Author.Tests.{not-true, not-false}
-use lib.IntN.{ℤ}
-use Rattle.refusals.specs.Outcomes.{outcome, _if_, Outcome}
-use Rattle.refusals.proofs.Checks.{refused-by, passed, never-done}
+use Rattle.refusals.specs.Outcomes.{outcome, _if_}
+use Rattle.refusals.proofs.Checks.{refused-by, passed}
 use Rattle.parameters.specs.Sets.{setOf}
 use Rattle.parameters.proofs.AcceptedParameters.{accepted-parameters}
-use Rattle.polynomials.specs.Polynomials.{coefficient, array, unitsOfSumZero}
+use Rattle.polynomials.specs.Polynomials.{array}
 use Rattle.polynomials.proofs.Arrays.{array-length}
 use Rattle.array_sets.specs.Sets.{arrayCheck}
 use Rattle.array_sets.specs.declared.ArraySet.the-variants.{Phi}
 use Rattle.array_sets.proofs.ArrayChecks.{own-check}
 use Rattle.placed_units.specs.declared.PlacedUnit.{PlacedUnit}
-use Rattle.placed_units.specs.PlacedUnits.{anyOutOfRange, anyPlaceTwice, spread}
+use Rattle.placed_units.specs.PlacedUnits.{anyOutOfRange, spread}
 use Rattle.placed_units.specs.Layout.{recordsFrom}
 use Rattle.placed_ephemerals.proofs.Promises.{array-in-set}
 use Rattle.place_spreading.proofs.checked.places_refusal.Statement.{statement}

@@ -1,5 +1,5 @@
 -- `out_of_range_at` meets its contract.
-use mathlib.Core.Path.{_≡_, sym, _∙_, ap, subst}
+use mathlib.Core.Path.{sym, _∙_, ap}
 use mathlib.Core.Bool.{Bool, not, _||_}
 use Prim.Native.Nat.{ℕ, _*_, _+_}
 use borrow.Author.Needs.{needs}
