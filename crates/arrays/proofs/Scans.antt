@@ -5,6 +5,7 @@ use Prim.Native.Nat.{ℕ, zero, suc, _+_, _≤_, _<_}
 use native.Mathlib.Omega.{arith}
 use native.Mathlib.Decide.{ℕ-discrete}
 use native.Mathlib.Numerals.{add-one}
+use Rattle.integers.proofs.Tests.{and-false}
 use Rattle.eisenstein.specs.Values.{𝟘, _+ω_}
 use Rattle.polynomials.specs.Polynomials.{Polynomial, sum, all}
 
@@ -18,10 +19,6 @@ unfolding all
 all-fails zero i t l e = absurd (omega arith)
 all-fails (suc n) i t l e = go (ℕ-discrete i n) (all-fails n i t)
   where
-    and-false : (p : Bool) → (p && false) ≡ false
-    and-false true = refl
-    and-false false = refl
-
     go : Dec (i ≡ n) → (i < n → t i ≡ false → all n t ≡ false) → (all n t && t n) ≡ false
     go (yes q) r = ap (λ (p : Bool). all n t && p) (ap t (sym q) ∙ e) ∙ and-false (all n t)
     go (no q) r = ap (λ (p : Bool). p && t n) (r (omega arith) e)

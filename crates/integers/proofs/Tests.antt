@@ -64,3 +64,7 @@ neither-first false r e = refl
 pub neither-second : (p r : Bool) → (p || r) ≡ false → r ≡ false
 neither-second true r e = cc
 neither-second false r e = e
+
+pub and-false : (t : Bool) → (t && false) ≡ false
+and-false true = refl
+and-false false = refl

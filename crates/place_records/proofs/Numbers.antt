@@ -9,12 +9,6 @@ use lib.ListN.{length, getD, take, set, replicate}
 use Rattle.placed_units.specs.declared.PlacedUnit.{PlacedUnit}
 use Rattle.placed_units.specs.Layout.{numbersOf}
 
-pub numbers-length : (k : ℕ) (rs : List PlacedUnit) → length (numbersOf k rs) ≡ 2 * k
-unfolding numbersOf
-numbers-length zero rs = refl
-numbers-length (suc k) [] = omega (arith, numbers-length k [])
-numbers-length (suc k) (r ∷ rs) = omega (arith, numbers-length k rs)
-
 pub no-numbers : (k : ℕ) → replicate (2 * k) 0 ≡ numbersOf k []
 unfolding numbersOf
 no-numbers zero = refl

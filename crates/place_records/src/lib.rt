@@ -7,8 +7,8 @@ ghost use lib.ListN.{length, replicate};
 ghost use Rattle.refusals.specs.Outcomes.{number, Gives};
 ghost use Rattle.refusals.specs.Numbers.{answered};
 ghost use Rattle.parameters.specs.Sets.{setOf};
-ghost use Rattle.placed_units.specs.Layout.{recordsFrom, numbersOf};
-ghost use Rattle.placed_ephemerals.specs.Calls.{spreading, placesSealing};
+ghost use Rattle.placed_units.specs.Layout.{numbersOf};
+ghost use Rattle.placed_ephemerals.specs.Calls.{spreading, placesSealing, numbersSpreading, numbersSealing};
 use parameters::Parameters;
 use placed_units::PlacedUnit;
 use refusals::Answer;
@@ -44,7 +44,7 @@ fn numbers_of(places: &[PlacedUnit]) -> [u32; 2048]
 }
 
 fn spread_laid(p: Parameters, numbers: [u32; 2048], count: usize, phi: &mut [i32]) -> Answer
-    ensures { λ r. ⌜ Gives (spreading (setOf p) (recordsFrom numbers 0 count) (length (now (phi .entry)))) (number (answered r)) (now (phi .entry)) (now (phi .exit)) ⌝ }
+    ensures { λ r. ⌜ Gives (numbersSpreading (setOf p) numbers count (length (now (phi .entry)))) (number (answered r)) (now (phi .entry)) (now (phi .exit)) ⌝ }
 {
     place_spreading::spread_numbers(p, &numbers, count, phi)
 }
@@ -57,7 +57,7 @@ fn seal_laid(
     message: &[u8],
     e: &mut [i32],
 ) -> Answer
-    ensures { λ r. ⌜ Gives (placesSealing (setOf p) (now (h .entry)) (recordsFrom numbers 0 count) (now (message .entry)) (length (now (e .entry)))) (number (answered r)) (now (e .entry)) (now (e .exit)) ⌝ }
+    ensures { λ r. ⌜ Gives (numbersSealing (setOf p) (now (h .entry)) numbers count (now (message .entry)) (length (now (e .entry)))) (number (answered r)) (now (e .entry)) (now (e .exit)) ⌝ }
 {
     place_sealing::seal_numbers(p, h, &numbers, count, message, e)
 }

@@ -4,8 +4,7 @@ ghost use lib.ListN.{length};
 ghost use Rattle.refusals.specs.Outcomes.{number, Gives};
 ghost use Rattle.refusals.specs.Numbers.{answered};
 ghost use Rattle.parameters.specs.Sets.{setOf};
-ghost use Rattle.placed_units.specs.Layout.{recordsFrom};
-ghost use Rattle.placed_ephemerals.specs.Calls.{placesSealing};
+ghost use Rattle.placed_ephemerals.specs.Calls.{numbersSealing};
 
 mod spread;
 
@@ -21,10 +20,10 @@ pub fn seal_numbers(
     message: &[u8],
     e: &mut [i32],
 ) -> Answer
-    ensures { λ r. ⌜ Gives (placesSealing (setOf p) (now (h .entry)) (recordsFrom (now (numbers .entry)) 0 count) (now (message .entry)) (length (now (e .entry))))
+    ensures { λ r. ⌜ Gives (numbersSealing (setOf p) (now (h .entry)) (now (numbers .entry)) count (now (message .entry)) (length (now (e .entry))))
         (number (answered r)) (now (e .entry)) (now (e .exit)) ⌝ }
 {
-    match spread::refusal_before_places(p, h, count, message.len(), e.len()) {
+    match spread::refusal_before_places(p, h, count, numbers.len(), message.len(), e.len()) {
         Answer::Done => spread::seal_spread(p, h, numbers, count, message, e),
         Answer::Refused(refusal) => Answer::Refused(refusal),
     }

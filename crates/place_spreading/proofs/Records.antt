@@ -26,10 +26,10 @@ module _ (numbers : List ℕ) (n : ℕ) where
   pub from-start : from 0 ≡ recordsFrom numbers 0 n
   from-start = ap (recordsFrom numbers 0) (omega arith)
 
-  pub from-end : (i : ℕ) → n ≤ i → from i ≡ []
+  from-end : (i : ℕ) → n ≤ i → from i ≡ []
   from-end i h = ap (recordsFrom numbers i) (omega arith) ∙ records-none numbers i
 
-  pub from-next : (i : ℕ) → i < n → from i ≡ recordAt numbers i ∷ from (suc i)
+  from-next : (i : ℕ) → i < n → from i ≡ recordAt numbers i ∷ from (suc i)
   from-next i h = ap (recordsFrom numbers i) {x = n - i} {y = suc (n - suc i)} (omega arith) ∙ records-first numbers i (n - suc i)
 
   -- ---- 23
@@ -47,7 +47,7 @@ module _ (numbers : List ℕ) (n : ℕ) where
     range-none i h = ap (anyOutOfRange N) (from-end i h)
 
     -- where none is out of range, none is so from record i on
-    pub range-from : anyOutOfRange N (from 0) ≡ false → (i : ℕ) → i ≤ n → anyOutOfRange N (from i) ≡ false
+    range-from : anyOutOfRange N (from 0) ≡ false → (i : ℕ) → i ≤ n → anyOutOfRange N (from i) ≡ false
     range-from h zero l = h
     range-from h (suc i) l = rest-in-range N (recordAt numbers i) (from (suc i)) (sym (ap (anyOutOfRange N) (from-next i (omega arith))) ∙ range-from h i (omega arith))
 

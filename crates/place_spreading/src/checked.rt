@@ -1,8 +1,8 @@
 // The refusals 23, 24 and 10 of a list with s records, and the array that it spreads to.
 ghost use mathlib.Core.Path.{_≡_};
-ghost use mathlib.Core.Bool.{_&&_};
+ghost use mathlib.Core.Bool.{not, _&&_};
 ghost use Prim.Native.Nat.{_*_};
-ghost use lib.Dec.{eqb};
+ghost use lib.Dec.{eqb, ltb};
 ghost use lib.ListN.{length};
 ghost use Rattle.refusals.specs.Outcomes.{number, outcome, Gives, Passes};
 ghost use Rattle.refusals.specs.Numbers.{answered};
@@ -19,12 +19,14 @@ use parameters::Parameters;
 use refusals::Answer;
 use refusals::Refusal;
 
-// Whether a list has s records, and the output's length is 2N.
-pub(crate) fn has_lengths(n: u32, s: u32, count: usize, room: usize) -> bool
-    ensures { λ r. ⌜ r ≡ (eqb count s && full n room) ⌝ }
+// Whether a list has s records, which are all given, and the output's length is 2N.
+pub(crate) fn has_lengths(n: u32, s: u32, count: usize, given: usize, room: usize) -> bool
+    ensures { λ r. ⌜ r ≡ (not (ltb given (2 * count)) && (eqb count s && full n room)) ⌝ }
 {
     if count == s as usize {
-        return room == 2 * (n as usize);
+        if 2 * (s as usize) <= given {
+            return room == 2 * (n as usize);
+        }
     }
     false
 }

@@ -5,8 +5,7 @@ ghost use lib.ListN.{length};
 ghost use Rattle.refusals.specs.Outcomes.{number, Gives};
 ghost use Rattle.refusals.specs.Numbers.{answered};
 ghost use Rattle.parameters.specs.Sets.{setOf};
-ghost use Rattle.placed_units.specs.Layout.{recordsFrom};
-ghost use Rattle.placed_ephemerals.specs.Calls.{spreading};
+ghost use Rattle.placed_ephemerals.specs.Calls.{numbersSpreading};
 
 mod checked;
 mod laying;
@@ -17,12 +16,12 @@ use refusals::Refusal;
 
 // Spreads the list of `count` records, laid out as numbers, to phi.
 pub fn spread_numbers(p: Parameters, numbers: &[u32], count: usize, phi: &mut [i32]) -> Answer
-    ensures { λ r. ⌜ Gives (spreading (setOf p) (recordsFrom (now (numbers .entry)) 0 count) (length (now (phi .entry))))
+    ensures { λ r. ⌜ Gives (numbersSpreading (setOf p) (now (numbers .entry)) count (length (now (phi .entry))))
         (number (answered r)) (now (phi .entry)) (now (phi .exit)) ⌝ }
 {
     let n = p.n;
     let s = p.s;
-    let lengths = checked::has_lengths(n, s, count, phi.len());
+    let lengths = checked::has_lengths(n, s, count, numbers.len(), phi.len());
     match p.check().and(Refusal::WrongLength.when(!lengths)) {
         Answer::Done => checked::spread_into(p, numbers, count, phi),
         Answer::Refused(refusal) => Answer::Refused(refusal),

@@ -4,14 +4,14 @@ use mathlib.Core.Bool.{Bool, true, false, not, _&&_, _||_}
 use mathlib.Core.List.{List, [], _∷_, _++_}
 use Prim.Native.Nat.{ℕ, _*_, _<_}
 use native.Mathlib.Omega.{arith}
-use borrow.Author.Tests.{eq-eqb}
+use borrow.Author.Tests.{eq-eqb, ne-eqb}
 use lib.Dec.{T, eqb}
 use lib.IntN.{ℤ}
 use lib.ListN.{length}
 use mir.Facts.{and-yes}
-use Rattle.integers.proofs.Tests.{equal-2, are-equal-2, are-equal-4}
+use Rattle.integers.proofs.Tests.{equal-2, equal-4, are-equal-2, are-equal-4, and-false}
 use Rattle.refusals.specs.Outcomes.{Check, done, unless, outcome, _if_}
-use Rattle.refusals.proofs.Checks.{refused-by, passed, holds-passed, none-left, passed-all, same-first, done-all, done-passed, done-holds, done-value}
+use Rattle.refusals.proofs.Checks.{refused-by, passed, holds-passed, fails-refused, none-left, passed-all, same-first, done-all, done-passed, done-holds, done-value}
 use Rattle.eisenstein.specs.Values.{units}
 use Rattle.parameters.specs.Sets.{ParameterSet, parameterChecks}
 use Rattle.polynomials.specs.Polynomials.{Polynomial, coefficient, array, count, nonzero, among, unitsOnly, unitsOfSumZero, reducedQ}
@@ -28,7 +28,7 @@ use Rattle.placed_units.specs.PlacedUnits.{anyOutOfRange, anyPlaceTwice, spread
 use Rattle.placed_units.proofs.Orders.{length-order, out-of-range-order, twice-order, spread-order}
 use Rattle.placed_units.proofs.PlacesOf.{placesBelow, places-length, places-once, places-in-range, places-spread}
 use Rattle.placed_ephemerals.specs.Calls.{placeChecks, spreadingChecks, spreading, placesSealingChecks, placesSealing}
-use Rattle.placed_ephemerals.specs.Promises.{Sealing-from-places, SameRecords, Spreading-order-open, Sealing-order-open, PlacedEphemeral, Spreading-accepts, Spreading-accepted, Sealing-accepted, Every-ephemeral-has-places}
+use Rattle.placed_ephemerals.specs.Promises.{Sealing-from-places, Other-length-refused, SameRecords, Spreading-order-open, Sealing-order-open, PlacedEphemeral, Spreading-accepts, Spreading-accepted, Sealing-accepts, Sealing-accepted, Every-ephemeral-has-places}
 use Rattle.placed_ephemerals.proofs.Agreeing.{same-set, same-sealed}
 
 -- ---- outcomes
@@ -61,6 +61,20 @@ sealing-from-places p h places message room ok =
     lengths =
         ap (λ (t : Bool). eqb (length message) (messageBytes (p .N)) && (t && (full (p .N) (length h) && full (p .N) room))) (eq-eqb (length places) (p .s) (ok .records))
         ∙ ap (λ (t : Bool). eqb (length message) (messageBytes (p .N)) && (full (p .N) (length h) && (t && full (p .N) room))) (sym (eq-eqb (length (array (p .N) (spread places))) (2 * p .N) (array-length (p .N) (spread places))))
+
+-- ---- another number of records
+
+pub other-length-refused : Other-length-refused
+unfolding placesSealing placesSealingChecks spreading spreadingChecks
+other-length-refused p h places message room other = (both (eqb (length message) (messageBytes (p .N))) _ _ _, both true _ _ _)
+  where
+    not-s : eqb (length places) (p .s) ≡ false
+    not-s = ne-eqb (length places) (p .s) other
+
+    both : (before after : Bool) (cs : List Check) (a : List ℤ) → outcome (parameterChecks p ++ (7 if not (before && (eqb (length places) (p .s) && after)) ∷ cs)) a ≡ outcome (parameterChecks p ++ (7 if true ∷ [])) []
+    both before after cs a =
+        same-first (parameterChecks p) _ _ _ _ (λ accepted.
+        fails-refused 7 (before && (eqb (length places) (p .s) && after)) cs a (ap (λ (t : Bool). before && (t && after)) not-s ∙ and-false before) ∙ sym (refused-by 7 [] [] refl))
 
 -- ---- the order of the records
 
@@ -118,6 +132,19 @@ spreading-accepts p places accepted ok =
     ∙ passed 23 _ _ (is-unset (anyOutOfRange (p .N) places) (ok .spreadable .in-range))
     ∙ passed 24 _ _ (is-unset (anyPlaceTwice places) (ok .spreadable .once))
     ∙ holds-passed 10 (unitsOfSumZero (p .N) (p .s) (spread places)) _ _ (ok .in-set)
+    ∙ none-left _
+
+pub sealing-accepts : Sealing-accepts
+unfolding placesSealing placesSealingChecks
+sealing-accepts p h places message accepted h-full h-reduced ok msg =
+    passed-all (parameterChecks p) _ _ accepted
+    ∙ holds-passed 7 (eqb (length message) (messageBytes (p .N)) && (eqb (length places) (p .s) && (full (p .N) (length h) && full (p .N) (2 * p .N)))) _ _
+    (equal-4 {a = length message} {b = length places} {c = length h} {d = 2 * p .N} (msg .full) (ok .spreadable .records) h-full refl)
+    ∙ holds-passed 12 (reducedQ (p .N) (p .q) (coefficient h)) _ _ h-reduced
+    ∙ passed 23 _ _ (is-unset (anyOutOfRange (p .N) places) (ok .spreadable .in-range))
+    ∙ passed 24 _ _ (is-unset (anyPlaceTwice places) (ok .spreadable .once))
+    ∙ holds-passed 10 (unitsOfSumZero (p .N) (p .s) (spread places)) _ _ (ok .in-set)
+    ∙ passed 15 _ _ (is-unset (spareBitSet (p .N) message) (msg .no-spare))
     ∙ none-left _
 
 -- what passed 23, 24 and 10

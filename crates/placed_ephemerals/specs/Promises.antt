@@ -1,16 +1,19 @@
 -- What document 02's wish 1 promises of sealing from places, for all inputs; each is proved in proofs/Promises.antt.
 use mathlib.Core.Path.{_≡_}
-use mathlib.Core.Bool.{not}
-use mathlib.Core.List.{List, List·Permᴰ}
+use mathlib.Core.Bool.{true, not}
+use mathlib.Core.List.{List, [], _∷_, _++_, List·Permᴰ}
+use mathlib.Core.Logic.{_≢_}
 use Prim.Native.Nat.{ℕ, _*_}
 use lib.Dec.{T}
 use lib.IntN.{ℤ}
 use lib.ListN.{length}
-use Rattle.refusals.specs.Outcomes.{done, Passes}
+use Rattle.refusals.specs.Outcomes.{done, outcome, _if_, Passes}
 use Rattle.parameters.specs.Sets.{ParameterSet, parameterChecks}
-use Rattle.polynomials.specs.Polynomials.{array, unitsOfSumZero}
+use Rattle.polynomials.specs.Polynomials.{coefficient, array, unitsOfSumZero, reducedQ}
+use Rattle.packing.specs.Messages.{packed}
+use Rattle.etru.specs.Scheme.{sealed}
 use Rattle.etru.specs.Calls.{sealing}
-use Rattle.etru.specs.Demand3.{Ephemeral}
+use Rattle.etru.specs.Demand3.{Ephemeral, Message}
 use Rattle.placed_units.specs.declared.PlacedUnit.{PlacedUnit}
 use Rattle.placed_units.specs.PlacedUnits.{anyOutOfRange, anyPlaceTwice, spread}
 use Rattle.placed_ephemerals.specs.Calls.{spreading, placesSealing}
@@ -21,9 +24,13 @@ pub record Spreadable (p : ParameterSet) (places : List PlacedUnit) : Type 0 whe
   pub in-range : T (not (anyOutOfRange (p .N) places))
   pub once : T (not (anyPlaceTwice places))
 
--- "Sealing from this list must give what sealing from the full array gives": the same number and the same output, whatever the other arguments are.
+-- "Sealing from this list must give what sealing from the full array gives": of such a list the same number and the same output, whatever the other arguments are.
 abbrev pub Sealing-from-places : Type 0
 Sealing-from-places = (p : ParameterSet) (h : List ℤ) (places : List PlacedUnit) (message : List ℕ) (room : ℕ) → Spreadable p places → placesSealing p h places message room ≡ sealing p h (array (p .N) (spread places)) message room
+
+-- "The list has s records, else refusal 7": the first refusal of another list is 7, unless the parameters have one.
+abbrev pub Other-length-refused : Type 0
+Other-length-refused = (p : ParameterSet) (h : List ℤ) (places : List PlacedUnit) (message : List ℕ) (room : ℕ) → length places ≢ p .s → (placesSealing p h places message room ≡ outcome (parameterChecks p ++ 7 if true ∷ []) []) × (spreading p places room ≡ outcome (parameterChecks p ++ 7 if true ∷ []) [])
 
 -- "their order is open": the same records in another order have the same outcome, also where it is a refusal.
 abbrev pub SameRecords : (places places′ : List PlacedUnit) → Type 0
@@ -40,12 +47,15 @@ pub record PlacedEphemeral (p : ParameterSet) (places : List PlacedUnit) : Type 
   pub spreadable : Spreadable p places
   pub in-set : T (unitsOfSumZero (p .N) (p .s) (spread places))
 
--- Both calls accept just these lists, and the array of an accepted list is in the set of φ.
+-- Both calls accept these lists, sealing with every h that is reduced, and no others; and the array of an accepted list is in the set of φ.
 abbrev pub Spreading-accepts : Type 0
 Spreading-accepts = (p : ParameterSet) (places : List PlacedUnit) → Passes (parameterChecks p) → PlacedEphemeral p places → spreading p places (2 * p .N) ≡ done (array (p .N) (spread places))
 
 abbrev pub Spreading-accepted : Type 0
 Spreading-accepted = (p : ParameterSet) (places : List PlacedUnit) (room : ℕ) (φ : List ℤ) → spreading p places room ≡ done φ → PlacedEphemeral p places × Ephemeral p φ
+
+abbrev pub Sealing-accepts : Type 0
+Sealing-accepts = (p : ParameterSet) (h : List ℤ) (places : List PlacedUnit) (message : List ℕ) → Passes (parameterChecks p) → length h ≡ 2 * p .N → T (reducedQ (p .N) (p .q) (coefficient h)) → PlacedEphemeral p places → Message p message → placesSealing p h places message (2 * p .N) ≡ done (array (p .N) (sealed p (coefficient h) (spread places) (packed message)))
 
 abbrev pub Sealing-accepted : Type 0
 Sealing-accepted = (p : ParameterSet) (h : List ℤ) (places : List PlacedUnit) (message : List ℕ) (room : ℕ) (e : List ℤ) → placesSealing p h places message room ≡ done e → PlacedEphemeral p places × Ephemeral p (array (p .N) (spread places))

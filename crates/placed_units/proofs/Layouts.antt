@@ -37,3 +37,9 @@ records-of-numbers k [] h = refl
 records-of-numbers zero (r ∷ places) h = absurd (omega arith)
 records-of-numbers (suc k) (r ∷ places) h =
     ap (λ (l : List PlacedUnit). r ∷ l) (records-later (r .place) (r .unit) (numbersOf k places) 0 (length places) ∙ records-of-numbers k places (omega arith))
+
+pub numbers-length : (k : ℕ) (places : List PlacedUnit) → length (numbersOf k places) ≡ 2 * k
+unfolding numbersOf
+numbers-length zero places = refl
+numbers-length (suc k) [] = omega (arith, numbers-length k [])
+numbers-length (suc k) (r ∷ places) = omega (arith, numbers-length k places)

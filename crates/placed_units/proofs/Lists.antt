@@ -28,7 +28,7 @@ record-in-range N r h =
 
 pub first-in-range : (N : ℕ) (r : PlacedUnit) (places : List PlacedUnit) → anyOutOfRange N (r ∷ places) ≡ false → outOfRange N r ≡ false
 unfolding anyOutOfRange
-first-in-range N r places h = neither-first (outOfRange N r) (anyOutOfRange N places) h
+first-in-range N r places h = neither-first (outOfRange N r) _ h
 
 pub rest-in-range : (N : ℕ) (r : PlacedUnit) (places : List PlacedUnit) → anyOutOfRange N (r ∷ places) ≡ false → anyOutOfRange N places ≡ false
 unfolding anyOutOfRange

@@ -1,4 +1,4 @@
-//! Document 01's own lines, with the results as it states them.
+//! Document 01's own lines, with the results as it states them; the line that is sealed, from places too.
 
 use etru::{Kind, Pair, Parameters, PlacedUnit};
 

@@ -57,7 +57,8 @@ use Rattle.placed_units.specs.Layout.{numbersOf}
 use Rattle.placed_units.proofs.PlacedUnit as placed-unit
 use Rattle.placed_units.proofs.PlacedUnit.Laws as placed-unit-laws
 use Rattle.place_records.proofs.Steps.{local, sets, tokens, calls-to}
-use Rattle.place_records.proofs.Numbers.{numbers-length, no-numbers, one-more, all-there}
+use Rattle.placed_units.proofs.Layouts.{numbers-length}
+use Rattle.place_records.proofs.Numbers.{no-numbers, one-more, all-there}
 use Rattle.place_records.proofs.zeros as zeros
 use Rattle.place_records.proofs.zeros.Symbol as zeros-def
 use Rattle.place_records.proofs.zeros.Symbol.{name as #place-records·zeros}

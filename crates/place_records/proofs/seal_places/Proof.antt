@@ -48,9 +48,9 @@ use Rattle.parameters.specs.Sets.{setOf}
 use Rattle.parameters.proofs.Parameters as parameters
 use Rattle.parameters.proofs.Parameters.Laws as parameters-laws
 use Rattle.placed_units.specs.declared.PlacedUnit.{PlacedUnit}
-use Rattle.placed_units.specs.Layout.{recordsFrom, numbersOf}
+use Rattle.placed_units.specs.Layout.{numbersOf}
 use Rattle.placed_units.proofs.PlacedUnit as placed-unit
-use Rattle.placed_ephemerals.specs.Calls.{placesSealing}
+use Rattle.placed_ephemerals.specs.Calls.{numbersSealing}
 use Rattle.place_records.proofs.Steps.{local, sets, tokens, calls-to}
 use Rattle.placed_ephemerals.proofs.Layouts.{sealing-laid}
 use Rattle.place_records.proofs.numbers_of as numbers-of
@@ -133,7 +133,7 @@ module _ {M : Type 1} (𝓤 : URA M) (H : Heap 𝓤) (A : Atoms 𝓤) (W : Given
   count = length (now places)
 
   abbrev Seals : Answer → List ℤ → Type 0
-  Seals r last = Gives (placesSealing (setOf p) (now h) (recordsFrom numbers 0 count) (now message) (length (now e))) (number (answered r)) (now e) last
+  Seals r last = Gives (numbersSealing (setOf p) (now h) numbers count (now message) (length (now e))) (number (answered r)) (now e) last
 
   module _ (C : Calls 𝓤 H) (Λ : Loops 𝓤 H) (fm : FmC 𝓤 H (W .laws) C) (numbers-of-met : Triple 𝓤 (C #place-records·numbers-of) (NumbersOf 𝓤 H A mem run)) (seal-laid-met : Triple 𝓤 (C #place-records·seal-laid) (SealLaid 𝓤 H A mem run))
       (is : Is Q p (p′ ∷ [])) (h-room : Room i32 (length (now h))) (room : Room P (length (now places))) (message-room : Room u8 (length (now message))) (e-room : Room i32 (length (now e))) where

@@ -48,9 +48,9 @@ use Rattle.parameters.specs.Sets.{setOf}
 use Rattle.parameters.proofs.Parameters as parameters
 use Rattle.parameters.proofs.Parameters.Laws as parameters-laws
 use Rattle.placed_units.specs.declared.PlacedUnit.{PlacedUnit}
-use Rattle.placed_units.specs.Layout.{recordsFrom, numbersOf}
+use Rattle.placed_units.specs.Layout.{numbersOf}
 use Rattle.placed_units.proofs.PlacedUnit as placed-unit
-use Rattle.placed_ephemerals.specs.Calls.{spreading}
+use Rattle.placed_ephemerals.specs.Calls.{numbersSpreading}
 use Rattle.place_records.proofs.Steps.{local, sets, tokens, calls-to}
 use Rattle.placed_ephemerals.proofs.Layouts.{spreading-laid}
 use Rattle.place_records.proofs.numbers_of as numbers-of
@@ -121,7 +121,7 @@ module _ {M : Type 1} (𝓤 : URA M) (H : Heap 𝓤) (A : Atoms 𝓤) (W : Given
   count = length (now places)
 
   abbrev Spreads : Answer → List ℤ → Type 0
-  Spreads r last = Gives (spreading (setOf p) (recordsFrom numbers 0 count) (length (now phi))) (number (answered r)) (now phi) last
+  Spreads r last = Gives (numbersSpreading (setOf p) numbers count (length (now phi))) (number (answered r)) (now phi) last
 
   module _ (C : Calls 𝓤 H) (Λ : Loops 𝓤 H) (fm : FmC 𝓤 H (W .laws) C) (numbers-of-met : Triple 𝓤 (C #place-records·numbers-of) (NumbersOf 𝓤 H A mem run)) (spread-laid-met : Triple 𝓤 (C #place-records·spread-laid) (SpreadLaid 𝓤 H A mem run))
       (is : Is Q p (p′ ∷ [])) (room : Room P (length (now places))) (phi-room : Room i32 (length (now phi))) where

@@ -1,16 +1,17 @@
 -- `spread_numbers` meets its contract: the parameters and 7, then what the records give.
 use mathlib.Core.Path.{_≡_, sym, _∙_, ap}
 use mathlib.Core.Bool.{Bool, not, _&&_}
-use mathlib.Core.List.{List, [], _∷_, append-assoc}
-use Prim.Native.Nat.{ℕ}
+use mathlib.Core.List.{List, [], _∷_, _++_, append-assoc}
+use Prim.Native.Nat.{ℕ, _*_}
 use borrow.Author.Needs.{needs}
-use lib.Dec.{T, eqb}
+use lib.Dec.{T, eqb, ltb}
 use lib.IntN.{ℤ}
 use lib.ListN.{length}
+use mir.Facts.{and-yes}
 use Rattle.integers.proofs.Tests.{are-equal-2}
 use Rattle.refusals.specs.Outcomes.{Check, _if_, outcome, Passes}
 use Rattle.refusals.specs.Numbers.{answered}
-use Rattle.refusals.proofs.Checks.{holds-passed, passed-all, refused-first, done-all, done-holds, gives-refused, gives-same}
+use Rattle.refusals.proofs.Checks.{holds-passed, passed-all, refused-first, same-first, done-all, done-holds, gives-refused, gives-same}
 use Rattle.parameters.specs.Sets.{ParameterSet, setOf, parameterChecks}
 use Rattle.polynomials.specs.Polynomials.{array}
 use Rattle.arrays.specs.Arrays.{full}
@@ -19,7 +20,8 @@ use Rattle.placed_units.specs.declared.PlacedUnit.{PlacedUnit}
 use Rattle.placed_units.specs.PlacedUnits.{spread}
 use Rattle.placed_units.specs.Layout.{recordsFrom}
 use Rattle.placed_units.proofs.Layouts.{records-length}
-use Rattle.placed_ephemerals.specs.Calls.{placeChecks, spreadingChecks, spreading}
+use Rattle.placed_ephemerals.specs.Calls.{placeChecks, spreadingChecks, notAllThere, numbersSpreading}
+use Rattle.placed_ephemerals.proofs.Layouts.{joined-7}
 use Rattle.place_spreading.proofs.spread_numbers.Statement.{statement}
 use Rattle.place_spreading.proofs.spread_numbers.Tie as tie
 
@@ -30,16 +32,17 @@ abbrev places : tie.Start → List PlacedUnit
 places s = recordsFrom (s .args .numbers .now) 0 (s .args .count)
 
 abbrev lengths : tie.Start → Bool
-lengths s = eqb (s .args .count) (P s .s) && full (P s .N) (length (s .args .phi .now))
+lengths s = not (ltb (length (s .args .numbers .now)) (2 * s .args .count)) && (eqb (s .args .count) (P s .s) && full (P s .N) (length (s .args .phi .now)))
 
 abbrev value-of : tie.Start → List ℤ
 value-of s = array (P s .N) (spread (places s))
 
--- the list that is read from the numbers has as many records as was said
-by-count : (s : tie.Start) → spreading (P s) (places s) (length (s .args .phi .now)) ≡ outcome (from-7 (P s) (lengths s) (placeChecks (P s) (places s))) (value-of s)
-unfolding spreading spreadingChecks
+-- both checks for 7 at once, where the list that is read from the numbers has as many records as was said
+by-count : (s : tie.Start) → numbersSpreading (P s) (s .args .numbers .now) (s .args .count) (length (s .args .phi .now)) ≡ outcome (from-7 (P s) (lengths s) (placeChecks (P s) (places s))) (value-of s)
+unfolding numbersSpreading spreadingChecks
 by-count s =
-    ap (λ (n : ℕ). outcome (from-7 (P s) (eqb n (P s .s) && full (P s .N) (length (s .args .phi .now))) (placeChecks (P s) (places s))) (value-of s)) (records-length (s .args .numbers .now) 0 (s .args .count))
+    ap (λ (n : ℕ). outcome (parameterChecks (P s) ++ (notAllThere (length (s .args .numbers .now)) (s .args .count) ∷ 7 if not (eqb n (P s .s) && full (P s .N) (length (s .args .phi .now))) ∷ placeChecks (P s) (places s))) (value-of s)) (records-length (s .args .numbers .now) 0 (s .args .count))
+    ∙ same-first (parameterChecks (P s)) _ _ _ _ (λ accepted. joined-7 (ltb (length (s .args .numbers .now)) (2 * s .args .count)) (eqb (s .args .count) (P s .s) && full (P s .N) (length (s .args .phi .now))) (placeChecks (P s) (places s)) (value-of s))
 
 -- the parameters and 7
 before-places : (c : tie.After-and) → answered (c .and .result) ≡ outcome (from-7 (P (c .before .before .before .before .before)) (lengths (c .before .before .before .before .before)) []) tt
@@ -65,8 +68,10 @@ spread-numbers-spec =
     (λ c κs. search needs)
     (λ c. search needs)
     (λ c κs.
-    let a = all-asked (c .before) in
-    let e = are-equal-2 _ _ _ _ (a .1) in
+    let told = c .before in
+    let s = told .before .before .before .before .before .before .before in
+    let a = all-asked told in
+    let e = are-equal-2 (s .args .count) (P s .s) (length (s .args .phi .now)) (2 * P s .N) (and-yes (not (ltb (length (s .args .numbers .now)) (2 * s .args .count))) (eqb (s .args .count) (P s .s) && full (P s .N) (length (s .args .phi .now))) (a .1) .1) in
     (a .0, e .0, e .1))
     (λ c. search needs)
     (λ c. search needs)

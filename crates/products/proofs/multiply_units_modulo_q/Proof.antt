@@ -7,6 +7,7 @@ use borrow.Author.Needs.{needs}
 use borrow.Author.Tests.{not-true, not-false}
 use lib.IntN.{ℤ}
 use lib.ListN.{length}
+use Rattle.integers.proofs.Tests.{and-false}
 use Rattle.eisenstein.specs.Values.{ℤ[ω], value}
 use Rattle.eisenstein.specs.Reduction.{modQ}
 use Rattle.eisenstein.proofs.Pairs.{pair-read}
@@ -38,10 +39,6 @@ tested c = let s = c .before in sym (c .usable .ensures ∙ ap usable (pair-read
 
 q-usable : (c : tie.Else1) → usable (q (c .before .before)) ≡ true
 q-usable c = tested (c .before) ∙ not-false _ (c .if1 .left)
-
-and-false : (b : Bool) → (b && false) ≡ false
-and-false true = refl
-and-false false = refl
 
 -- the product's coefficients, as they are read again
 reduced : (n : ℕ) (q : ℤ[ω]) (x : Polynomial) (l : List ℤ) → l ≡ array n x → array n (λ i. modQ q (coefficient l i)) ≡ array n (λ i. modQ q (x i))

@@ -29,6 +29,6 @@ seal-spread-spec =
     (λ c κs.
     let z = c .before .before in
     let s = z .before .before .before in
-    (s .pre .0, (s .pre .1 .0, s .pre .1 .1, s .pre .1 .2, s .pre .1 .3, part z)))
+    (s .pre .0, (s .pre .1 .0, s .pre .1 .1, s .pre .1 .2, s .pre .1 .3, s .pre .1 .4, part z)))
     (λ c. search needs)
     (λ c. search needs))

@@ -22,7 +22,8 @@ use Rattle.placed_units.specs.declared.PlacedUnit.{PlacedUnit}
 use Rattle.placed_units.specs.PlacedUnits.{spread}
 use Rattle.placed_units.specs.Layout.{recordsFrom}
 use Rattle.placed_units.proofs.Layouts.{records-length}
-use Rattle.placed_ephemerals.specs.Calls.{placeChecks, spreadingChecks, spreading, placesSealingChecks, placesSealing}
+use Rattle.placed_ephemerals.specs.Calls.{placeChecks, spreadingChecks, spreading, placesSealingChecks, placesSealing, numbersSealing}
+use Rattle.placed_ephemerals.proofs.Layouts.{spreading-there, sealing-there}
 use Rattle.placed_ephemerals.proofs.Promises.{sealing-from-places, spreading-accepted}
 use Rattle.place_sealing.proofs.spread.seal_with.Statement.{statement}
 use Rattle.place_sealing.proofs.spread.seal_with.Tie as tie
@@ -56,6 +57,15 @@ module _ (p : ParameterSet) (places : List PlacedUnit) where
 abbrev places : tie.Start → List PlacedUnit
 places s = recordsFrom (s .args .numbers .now) 0 (s .args .count)
 
+-- the numbers are all there, so they are a list
+as-list : (s : tie.Start) → numbersSealing (setOf (s .args .p)) (s .args .h .now) (s .args .numbers .now) (s .args .count) (s .args .message .now) (length (s .args .e .now)) ≡ placesSealing (setOf (s .args .p)) (s .args .h .now) (places s) (s .args .message .now) (length (s .args .e .now))
+as-list s = sealing-there (setOf (s .args .p)) (s .args .numbers .now) (s .args .count) (s .pre .1 .4) (s .args .h .now) (s .args .message .now) (length (s .args .e .now))
+
+spread-list : (c : tie.After-spread-numbers) → let s = c .before .before .before .before in Gives (spreading (setOf (s .args .p)) (places s) (length (s .args .phi .now))) (number (answered (c .spread-numbers .result))) (s .args .phi .now) (c .spread-numbers .last .1 .1 .1 .0)
+spread-list c =
+    let s = c .before .before .before .before in
+    gives-same (s .args .phi .now) (sym (spreading-there (setOf (s .args .p)) (s .args .numbers .now) (s .args .count) (s .pre .1 .4) (length (s .args .phi .now)))) (c .spread-numbers .ensures)
+
 pub seal-with-spec : {M : Type 1} → statement M
 seal-with-spec =
     tie.close
@@ -70,15 +80,15 @@ seal-with-spec =
     let told = c .before .before .before .before in
     let r = told .before .before .before in
     let s = r .before .before .before .before in
-    let none = ap (λ (a : Answer). number (answered a)) (sym (told .enum-told .given .1)) ∙ r .spread-numbers .ensures .0 in
-    gives-same (s .args .e .now) (sealed-so (setOf (s .args .p)) (places s) (length (s .args .phi .now)) (s .args .phi .now) _ (none, r .spread-numbers .ensures .1) (s .args .h .now) (s .args .message .now) (length (s .args .e .now))) (c .before .seal .ensures))
+    let none = ap (λ (a : Answer). number (answered a)) (sym (told .enum-told .given .1)) ∙ spread-list r .0 in
+    gives-same (s .args .e .now) (as-list s ∙ sealed-so (setOf (s .args .p)) (places s) (length (s .args .phi .now)) (s .args .phi .now) _ (none, spread-list r .1) (s .args .h .now) (s .args .message .now) (length (s .args .e .now))) (c .before .seal .ensures))
     (λ c. search needs)
     (λ c.
     let r = c .before .before .before .before in
     let s = r .before .before .before .before in
     let refusal = c .before .refusal .given .0 .0 in
-    let refused-list = answer-refused _ (r .spread-numbers .result) refusal (r .spread-numbers .ensures .0) (c .before .refusal .given .1) in
+    let refused-list = answer-refused _ (r .spread-numbers .result) refusal (spread-list r .0) (c .before .refusal .given .1) in
     let records = records-length (s .args .numbers .now) 0 (s .args .count) ∙ s .pre .1 .1 in
     gives-same (s .args .e .now)
-    (refused-so (setOf (s .args .p)) (places s) (s .args .h .now) (s .args .message .now) (length (s .args .phi .now)) (length (s .args .e .now)) (numberOf refusal) (s .pre .0 .0) (s .pre .0 .1) (s .pre .1 .0) records (s .pre .1 .2) (s .pre .1 .4) (s .pre .1 .3) (number-positive refusal) refused-list)
+    (as-list s ∙ refused-so (setOf (s .args .p)) (places s) (s .args .h .now) (s .args .message .now) (length (s .args .phi .now)) (length (s .args .e .now)) (numberOf refusal) (s .pre .0 .0) (s .pre .0 .1) (s .pre .1 .0) records (s .pre .1 .2) (s .pre .1 .5) (s .pre .1 .3) (number-positive refusal) refused-list)
     (refl, refl)))
