@@ -1,6 +1,7 @@
 // The interface for C. Each function returns the documents' refusal number, 0 if nothing is refused, and writes to its outputs only then.
 // It decides nothing: each function hands its arguments on, and `include/etru.h` is its manual.
-// At every N `etru_open_files` takes at most 72 KiB of stack, `etru_seal_places` 36 KiB, `etru_open`, `etru_check_key` and `etru_spread_places` 28 KiB, `etru_seal` and `etru_read` 12 KiB, and each other function 1 KiB.
+// At every N `etru_open_files` takes at most 72 KiB of stack, `etru_seal_places` 36 KiB, `etru_open`, `etru_check_key` and `etru_spread_places` 28 KiB,
+// `etru_seal` and `etru_read` 12 KiB, and each other function 1 KiB.
 ghost use mathlib.Core.Path.{_≡_};
 ghost use lib.ListN.{length};
 ghost use Rattle.refusals.specs.Outcomes.{number, Gives};

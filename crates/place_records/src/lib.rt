@@ -44,7 +44,8 @@ fn numbers_of(places: &[PlacedUnit]) -> [u32; 2048]
 }
 
 fn spread_laid(p: Parameters, numbers: [u32; 2048], count: usize, phi: &mut [i32]) -> Answer
-    ensures { λ r. ⌜ Gives (numbersSpreading (setOf p) numbers count (length (now (phi .entry)))) (number (answered r)) (now (phi .entry)) (now (phi .exit)) ⌝ }
+    ensures { λ r. ⌜ Gives (numbersSpreading (setOf p) numbers count (length (now (phi .entry))))
+        (number (answered r)) (now (phi .entry)) (now (phi .exit)) ⌝ }
 {
     place_spreading::spread_numbers(p, &numbers, count, phi)
 }
@@ -57,14 +58,16 @@ fn seal_laid(
     message: &[u8],
     e: &mut [i32],
 ) -> Answer
-    ensures { λ r. ⌜ Gives (numbersSealing (setOf p) (now (h .entry)) numbers count (now (message .entry)) (length (now (e .entry)))) (number (answered r)) (now (e .entry)) (now (e .exit)) ⌝ }
+    ensures { λ r. ⌜ Gives (numbersSealing (setOf p) (now (h .entry)) numbers count (now (message .entry)) (length (now (e .entry))))
+        (number (answered r)) (now (e .entry)) (now (e .exit)) ⌝ }
 {
     place_sealing::seal_numbers(p, h, &numbers, count, message, e)
 }
 
 // Spreads a list of places to phi.
 pub fn spread_places(p: Parameters, places: &[PlacedUnit], phi: &mut [i32]) -> Answer
-    ensures { λ r. ⌜ Gives (spreading (setOf p) (now (places .entry)) (length (now (phi .entry)))) (number (answered r)) (now (phi .entry)) (now (phi .exit)) ⌝ }
+    ensures { λ r. ⌜ Gives (spreading (setOf p) (now (places .entry)) (length (now (phi .entry))))
+        (number (answered r)) (now (phi .entry)) (now (phi .exit)) ⌝ }
 {
     let numbers = numbers_of(places);
     let count = places.len();
@@ -79,7 +82,8 @@ pub fn seal_places(
     message: &[u8],
     e: &mut [i32],
 ) -> Answer
-    ensures { λ r. ⌜ Gives (placesSealing (setOf p) (now (h .entry)) (now (places .entry)) (now (message .entry)) (length (now (e .entry)))) (number (answered r)) (now (e .entry)) (now (e .exit)) ⌝ }
+    ensures { λ r. ⌜ Gives (placesSealing (setOf p) (now (h .entry)) (now (places .entry)) (now (message .entry)) (length (now (e .entry))))
+        (number (answered r)) (now (e .entry)) (now (e .exit)) ⌝ }
 {
     let numbers = numbers_of(places);
     let count = places.len();

@@ -47,7 +47,8 @@ pub(crate) fn refusal_before_places(
     message: usize,
     room: usize,
 ) -> Answer
-    ensures { λ r. ⌜ answered r ≡ outcome (parameterChecks (setOf p) ++ notAllThere given count ∷ beforePlaces (setOf p) (now (h .entry)) count message room) tt ⌝ }
+    ensures { λ r. ⌜ answered r ≡ outcome (parameterChecks (setOf p)
+        ++ notAllThere given count ∷ beforePlaces (setOf p) (now (h .entry)) count message room) tt ⌝ }
 {
     let n = p.n;
     let s = p.s;
@@ -57,7 +58,7 @@ pub(crate) fn refusal_before_places(
         .and(check_array(p, ArraySet::ReducedModuloQ, h))
 }
 
-// The array of the list goes to phi. Sealing asks again what was asked before the records, and then 10 and 15.
+// The array of the list goes to phi. Spreading gives 23, 24 and 10; sealing asks again what was asked before them, and then 15.
 fn seal_with(
     p: Parameters,
     h: &[i32],
@@ -68,7 +69,8 @@ fn seal_with(
     e: &mut [i32],
 ) -> Answer
     requires { ⌜ Passes (parameterChecks (setOf p)) × T (reducedQ (p .n) (setOf p .q) (coefficient (now h))) ⌝ }
-    requires { ⌜ (length (now message) ≡ messageBytes (p .n)) × (count ≡ p .s) × (length (now h) ≡ 2 * p .n) × (length (now e) ≡ 2 * p .n) × (2 * count ≤ length (now numbers)) × (length (now phi) ≡ 2 * p .n) ⌝ }
+    requires { ⌜ (length (now message) ≡ messageBytes (p .n)) × (count ≡ p .s)
+        × (length (now h) ≡ 2 * p .n) × (length (now e) ≡ 2 * p .n) × (2 * count ≤ length (now numbers)) × (length (now phi) ≡ 2 * p .n) ⌝ }
     ensures { λ r. ⌜ Gives (numbersSealing (setOf p) (now (h .entry)) (now (numbers .entry)) count (now (message .entry)) (length (now (e .entry))))
         (number (answered r)) (now (e .entry)) (now (e .exit)) ⌝ }
 {
@@ -87,7 +89,8 @@ pub(crate) fn seal_spread(
     e: &mut [i32],
 ) -> Answer
     requires { ⌜ Passes (parameterChecks (setOf p)) × T (reducedQ (p .n) (setOf p .q) (coefficient (now h))) ⌝ }
-    requires { ⌜ (length (now message) ≡ messageBytes (p .n)) × (count ≡ p .s) × (length (now h) ≡ 2 * p .n) × (length (now e) ≡ 2 * p .n) × (2 * count ≤ length (now numbers)) ⌝ }
+    requires { ⌜ (length (now message) ≡ messageBytes (p .n)) × (count ≡ p .s)
+        × (length (now h) ≡ 2 * p .n) × (length (now e) ≡ 2 * p .n) × (2 * count ≤ length (now numbers)) ⌝ }
     ensures { λ r. ⌜ Gives (numbersSealing (setOf p) (now (h .entry)) (now (numbers .entry)) count (now (message .entry)) (length (now (e .entry))))
         (number (answered r)) (now (e .entry)) (now (e .exit)) ⌝ }
 {

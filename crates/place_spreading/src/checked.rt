@@ -50,7 +50,8 @@ fn places_refusal(p: Parameters, numbers: &[u32], count: usize, x: &mut [i32]) -
 // A list that is not refused is laid into phi too, so a refusal leaves phi as it came.
 pub(crate) fn spread_into(p: Parameters, numbers: &[u32], count: usize, phi: &mut [i32]) -> Answer
     requires { ⌜ Passes (parameterChecks (setOf p)) × (count ≡ p .s) × (length (now phi) ≡ 2 * p .n) ⌝ }
-    ensures { λ r. ⌜ Gives (outcome (placeChecks (setOf p) (recordsFrom (now (numbers .entry)) 0 count)) (array (p .n) (spread (recordsFrom (now (numbers .entry)) 0 count))))
+    ensures { λ r. ⌜ Gives (outcome (placeChecks (setOf p) (recordsFrom (now (numbers .entry)) 0 count))
+        (array (p .n) (spread (recordsFrom (now (numbers .entry)) 0 count))))
         (number (answered r)) (now (phi .entry)) (now (phi .exit)) ⌝ }
 {
     let n = p.n;
