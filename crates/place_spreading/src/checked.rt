@@ -47,7 +47,7 @@ fn places_refusal(p: Parameters, numbers: &[u32], count: usize, x: &mut [i32]) -
     check_array(p, ArraySet::Phi, x)
 }
 
-// A list that is not refused is laid into phi too, so a refusal leaves phi as it came.
+// Only a list that is not refused is laid into phi, so a refusal leaves phi as it came.
 pub(crate) fn spread_into(p: Parameters, numbers: &[u32], count: usize, phi: &mut [i32]) -> Answer
     requires { ⌜ Passes (parameterChecks (setOf p)) × (count ≡ p .s) × (length (now phi) ≡ 2 * p .n) ⌝ }
     ensures { λ r. ⌜ Gives (outcome (placeChecks (setOf p) (recordsFrom (now (numbers .entry)) 0 count))

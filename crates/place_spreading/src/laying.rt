@@ -1,4 +1,4 @@
-// The loops over a list's records and over an array.
+// The two loops over a list's records: whether one is out of range, and laying each unit at its place.
 ghost use mathlib.Core.Path.{_≡_};
 ghost use mathlib.Core.Bool.{true, false, not, cond};
 ghost use Prim.Native.Nat.{ℕ, _+_, _*_, _<_, _≤_};

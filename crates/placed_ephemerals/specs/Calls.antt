@@ -24,7 +24,7 @@ placeChecks p places =
     ∷ 10 if not (unitsOfSumZero (p .N) (p .s) (spread places))
     ∷ []
 
--- A list to its array. "The list has s records, else refusal 7."
+-- A list to its array. "The list has s records, else refusal 7"
 unfoldable pub spreadingChecks : ParameterSet → List PlacedUnit → ℕ → List Check
 spreadingChecks p places room =
     7 if not (eqb (length places) (p .s) && full (p .N) room)
