@@ -10,7 +10,7 @@ ghost use Rattle.array_sets.specs.declared.ArraySet.the-variants.{ReducedModulo
 ghost use Rattle.heads.specs.Kinds.{arraysOf};
 ghost use Rattle.files.specs.Files.{fileNumbers, numbersFrom, arrayAt};
 ghost use Rattle.files.specs.Calls.{setChecks};
-use crate::stored::read_numbers;
+use stored_numbers::read_numbers;
 use heads::kinds::array_count;
 use heads::kinds::array_set;
 use parameters::Parameters;

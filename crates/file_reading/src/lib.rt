@@ -9,7 +9,6 @@ ghost use Rattle.files.specs.Calls.{reading};
 
 mod contents;
 mod reading;
-mod stored;
 
 use parameters::Made;
 use refusals::Answer;

@@ -6,7 +6,7 @@ ghost use Rattle.refusals.specs.Numbers.{answered};
 ghost use Rattle.parameters.specs.Sets.{setOf, parameterChecks};
 ghost use Rattle.files.specs.Calls.{storedChecks, readingContent};
 use crate::contents::stored_refusal;
-use crate::stored::read_numbers;
+use stored_numbers::read_numbers;
 use files::lengths_right;
 use heads::HEAD_BYTES;
 use parameters::Parameters;

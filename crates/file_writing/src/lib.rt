@@ -9,7 +9,6 @@ ghost use Rattle.parameters.specs.Sets.{setOf};
 ghost use Rattle.files.specs.Calls.{writing};
 
 mod contents;
-mod stored;
 mod writing;
 
 use heads::kinds;

@@ -12,7 +12,7 @@ ghost use Rattle.heads.specs.Heads.{headLength};
 ghost use Rattle.files.specs.Files.{fileOf};
 ghost use Rattle.files.specs.Calls.{givenChecks, writingContent};
 use crate::contents::sets_refusal;
-use crate::stored::write_numbers;
+use stored_numbers::write_numbers;
 use files::lengths_right;
 use head_writing::write_head;
 use heads::HEAD_BYTES;

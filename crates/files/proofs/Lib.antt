@@ -3,4 +3,5 @@ pub mod Lists
 pub mod SetChecks
 pub mod Passed
 pub mod SmallArrays
+pub mod HeadTrips
 pub mod RoundTrips

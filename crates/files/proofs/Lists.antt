@@ -1,11 +1,11 @@
 -- Lists of signed 16-bit numbers, and their bytes.
 use mathlib.Core.Path.{_≡_, refl, _∙_, ap, ap₂}
-use mathlib.Core.List.{List, [], _∷_, _++_}
+use mathlib.Core.List.{List, [], _∷_, _++_, append-nil}
 use Prim.Native.Nat.{ℕ, zero, suc, _+_, _-_, _*_, _/_, _%_, _<_}
 use native.Mathlib.Omega.{arith}
 use lib.IntN.{ℤ, pos}
-use lib.ListN.{length, getD, take, drop, length-drop}
-use lib.Seq.{take-all}
+use lib.ListN.{length, getD, take, drop, length-drop, drop-of-length-le}
+use lib.Seq.{take-all, take-at}
 use Rattle.parameters.specs.Sets.{ParameterSet}
 use Rattle.packing.specs.Promises.{Bytes}
 use Rattle.arrays.specs.Arrays.{Small}
@@ -29,6 +29,12 @@ numbers-at (high ∷ low ∷ l) (suc i) h =
 
 pub rest-taken : (n : ℕ) (l : List ℕ) → take (length l - n) (drop n l) ≡ drop n l
 rest-taken n l = take-all (length l - n) (drop n l) (omega (arith, length-drop n l))
+
+-- what stands in front, with other bytes behind it
+pub put-behind : (n : ℕ) (front rest file new : List ℕ) → length front ≡ n → file ≡ front ++ rest → take n file ++ (new ++ drop (length file - n) (drop n file)) ≡ front ++ new
+put-behind n front rest file new h e =
+    ap₂ _++_ (ap (take n) e ∙ take-at front rest n h)
+    (ap (λ (l : List ℕ). new ++ l) (drop-of-length-le (drop n file) {i = length file - n} (omega (arith, length-drop n file))) ∙ append-nil new)
 
 -- ---- lengths
 

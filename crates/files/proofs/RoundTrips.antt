@@ -26,37 +26,28 @@ use Rattle.heads.proofs.Numbers.{Fits16, signed-bits, bits-signed, bits-lt, num
 use Rattle.files.proofs.Lists.{Fitting, fitting-small, bytes-length, numbers-length, numbers-of-bytes, bytes-of-numbers}
 use Rattle.heads.proofs.PartsFit.{PartsFit, parts-fit}
 use Rattle.head_reading.proofs.HeadChecks.{Head, head-passed}
+use Rattle.files.proofs.HeadTrips.{written-head, headed-length, written-head-passed, bytes-append, headed-bytes, read-head}
 use Rattle.files.proofs.Passed.{contents-passed, file-bytes}
 use Rattle.files.proofs.SmallArrays.{contents-small}
 
 -- ---- a file that is written
 
 module _ (kind : ℕ) (p : ParameterSet) (l : List ℤ) where
-  pub written-head : PartsFit p → headOf (fileOf kind p l) ≡ p
-  unfolding headOf unsignedAt signedAt fileOf headBytes bytes16
-  written-head f =
-      λ i.
-      set (number-bytes (p .N) i) (signed (f .c-fits) i) (signed (f .d-fits) i) (number-bytes (p .s) i) (number-bytes (p .t) i)
-    where
-      signed : {z : ℤ} → Fits16 z → signed16 (number16 (bits16 z / 256) (bits16 z % 256)) ≡ z
-      signed {z} g = ap signed16 (number-bytes (bits16 z)) ∙ signed-bits g
+  head-written : PartsFit p → headOf (fileOf kind p l) ≡ p
+  unfolding fileOf
+  head-written = written-head kind p (bytesOf l)
 
-  pub written-numbers : Fitting l → numbersOf (fileOf kind p l) ≡ l
+  written-numbers : Fitting l → numbersOf (fileOf kind p l) ≡ l
   unfolding fileOf headBytes bytes16
   written-numbers f = numbers-of-bytes l f
 
-  pub written-length : length (fileOf kind p l) ≡ headLength + 2 * length l
-  unfolding fileOf headBytes bytes16
-  written-length = omega (arith, bytes-length l)
+  written-length : length (fileOf kind p l) ≡ headLength + 2 * length l
+  unfolding fileOf
+  written-length = headed-length kind p (bytesOf l) ∙ ap (λ (n : ℕ). headLength + n) (bytes-length l)
 
-  written-head-passed : T (knownKind kind) → Passes (headChecks kind (fileOf kind p l))
-  unfolding headChecks marked versionOne unsignedAt number16 fileOf headBytes bytes16
-  written-head-passed k =
-      passed 16 _ _ (le-ltb (length (fileOf kind p l)) headLength (omega (arith, written-length)))
-      ∙ holds-passed 17 (marked (fileOf kind p l)) _ _ tt
-      ∙ holds-passed 18 (versionOne (fileOf kind p l)) _ _ tt
-      ∙ holds-passed 19 (knownKind kind && eqb kind kind) _ _ (yes-and (knownKind kind) (eqb kind kind) k (eqb-refl kind))
-      ∙ none-left _
+  head-accepted : T (knownKind kind) → Passes (headChecks kind (fileOf kind p l))
+  unfolding fileOf
+  head-accepted = written-head-passed kind p (bytesOf l)
 
   -- what writing has passed
   record Written : Type 0 where
@@ -84,14 +75,14 @@ module _ (kind : ℕ) (p : ParameterSet) (l : List ℤ) where
   written-head-reads : Written → readingHead kind (fileOf kind p l) ≡ done p
   unfolding readingHead
   written-head-reads w =
-      passed-all (headChecks kind (fileOf kind p l)) _ _ (written-head-passed (w .known))
-      ∙ rw (written-head (w .parts)) (done-with (parameterChecks p) p (w .parameters))
+      passed-all (headChecks kind (fileOf kind p l)) _ _ (head-accepted (w .known))
+      ∙ rw (head-written (w .parts)) (done-with (parameterChecks p) p (w .parameters))
 
   written-reads : Written → reading kind (fileOf kind p l) (length l) ≡ done l
   unfolding reading readingChecks
   written-reads w =
-      passed-all (headChecks kind (fileOf kind p l)) _ _ (written-head-passed (w .known))
-      ∙ rw (written-head (w .parts), written-numbers (w .fitting))
+      passed-all (headChecks kind (fileOf kind p l)) _ _ (head-accepted (w .known))
+      ∙ rw (head-written (w .parts), written-numbers (w .fitting))
       (passed-all (parameterChecks p) _ l (w .parameters) ∙ done-with _ l (w .contents))
 
 pub reading-undoes-writing : Reading-undoes-writing
@@ -104,26 +95,15 @@ reading-undoes-writing kind p l room file e =
 
 -- ---- what is written are bytes
 
--- each number of a list is a byte, as a pair for each cons: `omega` proves it of a list that is written out
-abbrev Below : List ℕ → Type 0
-Below [] = Unit {0}
-Below (n ∷ l) = (n < 256) × Below l
-
-bytes-append : (l m : List ℕ) → Below l → Bytes m → Bytes (l ++ m)
-bytes-append [] m h b i = b i
-bytes-append (n ∷ l) m h b zero = h .0
-bytes-append (n ∷ l) m h b (suc i) = bytes-append l m (h .1) b i
-
-bytes-of-list : (l : List ℤ) → Fitting l → Bytes (bytesOf l)
+pub bytes-of-list : (l : List ℤ) → Fitting l → Bytes (bytesOf l)
 unfolding bytesOf bytes16
 bytes-of-list [] f = λ i. lit< tt
 bytes-of-list (z ∷ l) f =
     bytes-append (bytes16 (bits16 z)) (bytesOf l) (omega (arith, bits-lt (f 0))) (bytes-of-list l (λ k. f (suc k)))
 
 bytes-of-file : (kind : ℕ) (p : ParameterSet) (l : List ℤ) → kind < 256 → PartsFit p → Fitting l → Bytes (fileOf kind p l)
-unfolding fileOf headBytes bytes16
-bytes-of-file kind p l k f g =
-    bytes-append (headBytes kind p) (bytesOf l) (omega (arith, bits-lt (f .c-fits), bits-lt (f .d-fits))) (bytes-of-list l g)
+unfolding fileOf
+bytes-of-file kind p l k f g = headed-bytes kind p (bytesOf l) k f (bytes-of-list l g)
 
 pub written-bytes : Written-bytes
 unfolding writing
@@ -134,40 +114,14 @@ written-bytes kind p l room file e =
 
 -- ---- a file that is read
 
--- the first n bytes, written out
-firsts : (n : ℕ) (l : List ℕ) → n ≤ length l → take n l ≡ listed n (λ i. getD l i 0)
-unfolding listed
-firsts zero l h = refl
-firsts (suc n) [] h = absurd (omega arith)
-firsts (suc n) (x ∷ l) h = ap (λ (r : List ℕ). x ∷ r) (firsts n l (omega arith))
-
 module _ (file : List ℕ) (bytes : Bytes file) where
-  unsigned-bytes : (k : ℕ) → bytes16 (unsignedAt file k) ≡ getD file k 0 ∷ getD file (suc k) 0 ∷ []
-  unfolding unsignedAt
-  unsigned-bytes k = bytes-number (getD file k 0) (getD file (suc k) 0) (bytes (suc k))
-
-  signed-bytes : (k : ℕ) → bytes16 (bits16 (signedAt file k)) ≡ getD file k 0 ∷ getD file (suc k) 0 ∷ []
-  unfolding signedAt unsignedAt
-  signed-bytes k = ap bytes16 (bits-signed (number-lt (bytes k) (bytes (suc k)))) ∙ unsigned-bytes k
-
-  read-head : (kind : ℕ) → Head kind file → headBytes kind (headOf file) ≡ take headLength file
-  unfolding headOf headBytes listed
-  read-head kind h =
-      (λ i.
-      sym (h .mark .0) i
-      ∷ sym (h .mark .1) i
-      ∷ sym (h .mark .2) i
-      ∷ (ap bytes16 (sym (h .version-is)) ∙ unsigned-bytes 3) i
-      ++ (sym (h .kind-is) i ∷ unsigned-bytes 6 i ++ (signed-bytes 8 i ++ (signed-bytes 10 i ++ (unsigned-bytes 12 i ++ unsigned-bytes 14 i)))))
-      ∙ sym (firsts headLength file (h .long))
-
   read-rest : length file % 2 ≡ 0 → bytesOf (numbersOf file) ≡ drop headLength file
   read-rest e =
       bytes-of-numbers (drop headLength file) (λ k. rw getD-drop (bytes (headLength + k))) (omega (arith, length-drop headLength file))
 
   read-file : (kind : ℕ) → Head kind file → length file % 2 ≡ 0 → fileOf kind (headOf file) (numbersOf file) ≡ file
   unfolding fileOf
-  read-file kind h e = ap₂ _++_ (read-head kind h) (read-rest e) ∙ take-append-drop headLength file
+  read-file kind h e = ap₂ _++_ (read-head file bytes kind h) (read-rest e) ∙ take-append-drop headLength file
 
 pub writing-undoes-reading : Writing-undoes-reading
 unfolding readingHead reading readingChecks writing writingChecks

@@ -9,7 +9,7 @@ use Rattle.refusals.specs.Outcomes.{Check, Outcome, outcome, _if_}
 use Rattle.parameters.specs.Sets.{ParameterSet, parameterChecks}
 use Rattle.array_sets.specs.declared.ArraySet.{ArraySet}
 use Rattle.array_sets.specs.Sets.{inSet, notInSet}
-use Rattle.heads.specs.Kinds.{arraysOf, knownKind}
+use Rattle.heads.specs.Kinds.{arraysOf, madeOfArrays, knownKind}
 use Rattle.heads.specs.Heads.{headOf}
 use Rattle.head_reading.specs.Calls.{headChecks}
 use Rattle.files.specs.Files.{fileNumbers, fileBytes, numbersOf, fileOf}
@@ -19,9 +19,9 @@ unfoldable pub setChecks : ParameterSet → List ArraySet → List ℤ → List 
 setChecks p [] numbers = []
 setChecks p (a ∷ rest) numbers = notInSet a if not (inSet p a (take (2 * p .N) numbers)) ∷ setChecks p rest (drop (2 * p .N) numbers)
 
--- the lengths of a file and of its numbers, one of which is lent as an output
+-- the lengths of a file and of its numbers, one of which is lent as an output; a kind that is not made of arrays alone has none
 abbrev pub rightLengths : ℕ → ℕ → (numbers file : ℕ) → Bool
-rightLengths kind N numbers file = eqb file (fileBytes kind N) && eqb numbers (fileNumbers kind N)
+rightLengths kind N numbers file = madeOfArrays kind && (eqb file (fileBytes kind N) && eqb numbers (fileNumbers kind N))
 
 -- 7, then the arrays
 unfoldable pub contentChecks : ℕ → ParameterSet → List ℤ → (numbers file : ℕ) → List Check

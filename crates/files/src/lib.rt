@@ -34,8 +34,10 @@ pub fn four_arrays() -> [i32; 8192]
 pub fn lengths_right(kind: u32, n: u32, numbers: usize, file: usize) -> bool
     ensures { λ r. ⌜ r ≡ rightLengths kind n numbers file ⌝ }
 {
-    if file == file_bytes(kind, n) {
-        return numbers == file_numbers(kind, n);
+    if kinds::made_of_arrays(kind) {
+        if file == file_bytes(kind, n) {
+            return numbers == file_numbers(kind, n);
+        }
     }
     false
 }

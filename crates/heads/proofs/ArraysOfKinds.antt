@@ -1,16 +1,17 @@
 -- The arrays of each kind, by its number.
 use mathlib.Core.Path.{_≡_, refl, sym, _∙_, ap, subst}
-use mathlib.Core.Bool.{Bool, cond}
+use mathlib.Core.Bool.{Bool, true, false, cond, _||_}
 use mathlib.Core.List.{List, [], _∷_}
-use mathlib.Core.Logic.{_≢_}
+use mathlib.Core.Logic.{_≢_, _⊎_, inl, inr}
 use Prim.Native.Nat.{ℕ, zero, suc, _≤_, _<_}
 use native.Mathlib.Decide.{ℕ-discrete}
 use borrow.Author.Tests.{ne-eqb}
-use lib.Dec.{T, lit≤, lit<, ltb, eqb}
+use lib.Dec.{T, lit≤, lit<, ltb, eqb, eqb→eq}
 use lib.ListN.{length, getD}
+use mir.Facts.{or-yes}
 use Rattle.array_sets.specs.declared.ArraySet.{ArraySet}
 use Rattle.array_sets.specs.declared.ArraySet.the-variants.{F, G, ReducedModulo2, ReducedModuloQ}
-use Rattle.heads.specs.Kinds.{arraysOf, knownKind}
+use Rattle.heads.specs.Kinds.{arraysOf, madeOfArrays, bundleKind, knownKind}
 
 pub public-arrays : (kind : ℕ) → kind ≡ 1 → arraysOf kind ≡ ReducedModuloQ ∷ []
 unfolding arraysOf
@@ -75,6 +76,21 @@ unfolding arraysOf
 at-most-four = by-kind (λ n l. length l ≤ 4) (lit≤ tt) (lit≤ tt) (lit≤ tt) (λ n. lit≤ tt)
 
 -- a kind fits into its byte of a head
-pub kind-small : (kind : ℕ) → T (knownKind kind) → kind < 256
+of-arrays-small : (kind : ℕ) → T (madeOfArrays kind) → kind < 256
 unfolding arraysOf
-kind-small = by-kind (λ n l. T (ltb 0 (length l)) → n < 256) (λ _. lit< tt) (λ _. lit< tt) (λ _. lit< tt) (λ n h. absurd h)
+of-arrays-small = by-kind (λ n l. T (ltb 0 (length l)) → n < 256) (λ _. lit< tt) (λ _. lit< tt) (λ _. lit< tt) (λ n h. absurd h)
+
+pub kind-small : (kind : ℕ) → T (knownKind kind) → kind < 256
+kind-small kind t = go (or-yes (madeOfArrays kind) (eqb kind bundleKind) t)
+  where
+    go : T (madeOfArrays kind) ⊎ T (eqb kind bundleKind) → kind < 256
+    go (inl h) = of-arrays-small kind h
+    go (inr h) = subst (λ (k : ℕ). k < 256) (sym (eqb→eq kind bundleKind h)) (lit< tt)
+
+-- a kind of arrays is known
+pub of-arrays-known : (kind : ℕ) → T (madeOfArrays kind) → T (knownKind kind)
+of-arrays-known kind t = go (madeOfArrays kind) t
+  where
+    go : (b : Bool) → T b → T (b || eqb kind bundleKind)
+    go true t = tt
+    go false t = absurd t

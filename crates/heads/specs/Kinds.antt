@@ -1,5 +1,5 @@
 -- The kinds of file (document 01, 'Files').
-use mathlib.Core.Bool.{Bool, cond}
+use mathlib.Core.Bool.{Bool, cond, _||_}
 use mathlib.Core.List.{List, [], _∷_}
 use Prim.Native.Nat.{ℕ}
 use lib.Dec.{ltb, eqb}
@@ -14,6 +14,14 @@ arraysOf kind =
     (cond (eqb kind 2) (F ∷ ReducedModulo2 ∷ ReducedModuloQ ∷ G ∷ [])
     (cond (eqb kind 3) (ReducedModuloQ ∷ []) []))
 
--- "1 to 3": the kinds are the numbers that have arrays.
+-- The kinds that are made of arrays alone are the numbers that have arrays.
+abbrev pub madeOfArrays : ℕ → Bool
+madeOfArrays kind = ltb 0 (length (arraysOf kind))
+
+-- Document 02, wish 2: "Kind 4", one file for a round.
+abbrev pub bundleKind : ℕ
+bundleKind = 4
+
+-- "Refusal 19 now admits each kind that this and later wishes add."
 abbrev pub knownKind : ℕ → Bool
-knownKind kind = ltb 0 (length (arraysOf kind))
+knownKind kind = madeOfArrays kind || eqb kind bundleKind

@@ -2,7 +2,7 @@
 ghost use mathlib.Core.Path.{_≡_};
 ghost use lib.ListN.{length, getD};
 ghost use Rattle.array_sets.specs.declared.ArraySet.the-variants.{ReducedModuloQ};
-ghost use Rattle.heads.specs.Kinds.{arraysOf, knownKind};
+ghost use Rattle.heads.specs.Kinds.{arraysOf, madeOfArrays, knownKind};
 use array_sets::ArraySet;
 
 // "Kind 1, public: h. Kind 2, private: f, F2, Fq, g. Kind 3, sealed: e."
@@ -11,6 +11,9 @@ pub const PUBLIC: u32 = 1;
 pub const PRIVATE: u32 = 2;
 
 pub const SEALED: u32 = 3;
+
+// Document 02, wish 2: a bundle, which is not made of arrays alone.
+pub const BUNDLE: u32 = 4;
 
 pub fn array_count(kind: u32) -> usize
     ensures { λ r. ⌜ r ≡ length (arraysOf kind) ⌝ }
@@ -45,9 +48,18 @@ pub fn array_set(kind: u32, k: usize) -> ArraySet
     ArraySet::ReducedModuloQ
 }
 
-pub fn known_kind(kind: u32) -> bool
-    ensures { λ r. ⌜ r ≡ knownKind kind ⌝ }
+pub fn made_of_arrays(kind: u32) -> bool
+    ensures { λ r. ⌜ r ≡ madeOfArrays kind ⌝ }
 {
     let count = array_count(kind);
     0 < count
+}
+
+pub fn known_kind(kind: u32) -> bool
+    ensures { λ r. ⌜ r ≡ knownKind kind ⌝ }
+{
+    if made_of_arrays(kind) {
+        return true;
+    }
+    kind == BUNDLE
 }

@@ -23,12 +23,12 @@ use Rattle.etru.specs.Calls.{keyChecks, keyCheck, openingChecks, opening}
 use Rattle.etru.specs.Demand3.{AcceptedKey, Opens}
 use Rattle.etru.proofs.Passed.{Checking, key-passed, opening-passed}
 use Rattle.etru.proofs.Demand3.{Key, accepted-key, demand-3}
-use Rattle.heads.specs.Kinds.{arraysOf, knownKind}
+use Rattle.heads.specs.Kinds.{arraysOf, madeOfArrays, knownKind}
 use Rattle.heads.specs.Heads.{headLength, number16, unsignedAt, headOf}
 use Rattle.files.specs.Files.{fileNumbers, fileBytes, arrayAt, fileOf}
-use Rattle.files.specs.Calls.{setChecks, contentChecks, writingChecks, writing}
+use Rattle.files.specs.Calls.{setChecks, rightLengths, contentChecks, writingChecks, writing}
 use Rattle.array_sets.proofs.ArrayChecks.{own}
-use Rattle.heads.proofs.ArraysOfKinds.{private-arrays, sealed-arrays}
+use Rattle.heads.proofs.ArraysOfKinds.{private-arrays, sealed-arrays, of-arrays-known}
 use Rattle.files.proofs.Passed.{file-bytes}
 use Rattle.files.proofs.RoundTrips.{reading-undoes-writing}
 use Rattle.lines.specs.Lines.{decimal, lineOf}
@@ -40,12 +40,13 @@ use Rattle.opened_files.proofs.ReadFiles.{Read, read-done}
 
 -- ---- writing, where all is in order
 
-writes : (kind : ℕ) (p : ParameterSet) (l : List ℤ) → T (knownKind kind) → Passes (parameterChecks p) → length l ≡ fileNumbers kind (p .N) → Passes (setChecks p (arraysOf kind) l) → writing kind p l (fileBytes kind (p .N)) ≡ done (fileOf kind p l)
+writes : (kind : ℕ) (p : ParameterSet) (l : List ℤ) → T (madeOfArrays kind) → Passes (parameterChecks p) → length l ≡ fileNumbers kind (p .N) → Passes (setChecks p (arraysOf kind) l) → writing kind p l (fileBytes kind (p .N)) ≡ done (fileOf kind p l)
 unfolding writing writingChecks contentChecks
 writes kind p l k c n s =
-    holds-passed 19 (knownKind kind) _ _ k
+    holds-passed 19 (knownKind kind) _ _ (of-arrays-known kind k)
     ∙ passed-all (parameterChecks p) _ _ c
-    ∙ holds-passed 7 (eqb (fileBytes kind (p .N)) (fileBytes kind (p .N)) && eqb (length l) (fileNumbers kind (p .N))) _ _ (equal-2 {a = fileBytes kind (p .N)} refl n)
+    ∙ holds-passed 7 (rightLengths kind (p .N) (length l) (fileBytes kind (p .N))) _ _
+    (yes-and (madeOfArrays kind) _ k (equal-2 {a = fileBytes kind (p .N)} refl n))
     ∙ done-with (setChecks p (arraysOf kind) l) _ s
 
 -- ---- a file that is written, as the program reads it

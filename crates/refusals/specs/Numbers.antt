@@ -30,6 +30,7 @@ numberOf Refusal.ModulusZero = 21
 numberOf Refusal.ValueOutOfRange = 22
 numberOf Refusal.PlaceOrUnitOutOfRange = 23
 numberOf Refusal.PlaceOccursTwice = 24
+numberOf Refusal.StopOccursTwice = 25
 
 -- An answer that carries no value, as an outcome.
 abbrev pub answered : Answer → Outcome (Unit {0})

@@ -29,6 +29,7 @@ pub enum Refusal {
     ValueOutOfRange,
     PlaceOrUnitOutOfRange,
     PlaceOccursTwice,
+    StopOccursTwice,
 }
 
 impl Refusal {
@@ -61,6 +62,7 @@ impl Refusal {
             Refusal::ValueOutOfRange => 22,
             Refusal::PlaceOrUnitOutOfRange => 23,
             Refusal::PlaceOccursTwice => 24,
+            Refusal::StopOccursTwice => 25,
         }
     }
 

@@ -39,4 +39,5 @@ number-spec =
     (omega (arith, number-known)) (omega (arith, number-known))
     (omega (arith, number-known)) (omega (arith, number-known))
     (omega (arith, number-known)) (omega (arith, number-known))
+    (omega (arith, number-known)) (omega (arith, number-known))
     )

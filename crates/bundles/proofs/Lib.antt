@@ -1,0 +1,12 @@
+pub mod MadeParameters
+pub mod Lengths
+pub mod Entries
+pub mod EntryChecks
+pub mod Steps
+pub mod Counted
+pub mod Walking
+pub mod StoredEntries
+pub mod GivenEntries
+pub mod Blocks
+pub mod FullEntries
+pub mod RoundTrips

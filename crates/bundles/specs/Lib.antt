@@ -1,0 +1,4 @@
+pub mod Bundles
+pub mod Calls
+pub mod Steps
+pub mod Promises

@@ -1,0 +1,41 @@
+-- What is promised of bundles, each proved in proofs/, for every accepted input.
+use mathlib.Core.Path.{_≡_}
+use mathlib.Core.List.{List, _++_, map}
+use Prim.Native.Nat.{ℕ, _+_, _*_, _<_}
+use lib.IntN.{ℤ, pos}
+use lib.ListN.{length, getD, replicate}
+use Rattle.refusals.specs.Outcomes.{done, outcome, Passes}
+use Rattle.parameters.specs.Sets.{ParameterSet}
+use Rattle.packing.specs.Promises.{Bytes}
+use Rattle.heads.specs.Heads.{headOf}
+use Rattle.bundles.specs.Bundles.{countOf, storedOf}
+use Rattle.bundles.specs.Calls.{readingParameters, readingCount, bundleChecks, readingChecks, readingStops, readingNumbers, writing}
+use Rattle.bundles.specs.Steps.{startOf, past, handed, walk}
+
+-- Stops of 16 bits.
+abbrev pub Stops16 : List ℕ → Type 0
+Stops16 stops = (k : ℕ) → getD stops k 0 < 65536
+
+-- What is written reads back to the same parameters, count, stops and numbers, and a reader of it is made.
+abbrev pub Reading-undoes-writing : Type 0
+Reading-undoes-writing =
+    (p : ParameterSet) (stops : List ℕ) (numbers : List ℤ) (room : ℕ) (file : List ℕ) → Stops16 stops → writing p stops numbers room ≡ done file
+    → (readingParameters file ≡ done p) × (readingCount file ≡ done (length stops)) × (readingStops file (length stops) (length numbers) ≡ done stops) × (readingNumbers file (length stops) (length numbers) ≡ done numbers) × Passes (bundleChecks file)
+
+-- What is read without refusal writes back to the same bytes, with the parameters of its head.
+abbrev pub Writing-undoes-reading : Type 0
+Writing-undoes-reading =
+    (file : List ℕ) (room room′ : ℕ) (stops : List ℕ) (numbers : List ℤ) → Bytes file → readingStops file room room′ ≡ done stops → readingNumbers file room room′ ≡ done numbers
+    → (readingParameters file ≡ done (headOf file)) × (writing (headOf file) stops numbers (length file) ≡ done file)
+
+-- A reader refuses what reading to outputs of the right lengths refuses, by the same number.
+abbrev pub Reader-refuses-alike : Type 0
+Reader-refuses-alike = (file : List ℕ) → outcome (bundleChecks file) (tt {0}) ≡ outcome (readingChecks file (countOf file) (2 * headOf file .N * countOf file)) tt
+
+-- What is written are bytes.
+abbrev pub Written-bytes : Type 0
+Written-bytes = (p : ParameterSet) (stops : List ℕ) (numbers : List ℤ) (room : ℕ) (file : List ℕ) → Stops16 stops → writing p stops numbers room ≡ done file → Bytes file
+
+-- "walks its entries": from the start of a made reader on, the steps hand out exactly the entries of the bundle, in order, then that the end is past, and nothing else.
+abbrev pub Walking : Type 0
+Walking = (file : List ℕ) → Passes (bundleChecks file) → (n : ℕ) → walk file (startOf file) (countOf file + n) ≡ map handed (storedOf file) ++ replicate n past
