@@ -6,6 +6,7 @@ The last line is 'N passed, M failed'; the exit status is 1 if anything failed.
 
 import argparse
 import copy
+import itertools
 import random
 import sys
 
@@ -482,6 +483,18 @@ def spoiled_in_order(rng, case, steps):
         for k in chosen:
             changed = rng.choice(steps[k][1])(changed)
         yield (steps[chosen[-1]][0], changed)
+
+
+def some(rng, changes):
+    return changes if len(changes) <= 6 else rng.sample(changes, 6)
+
+
+def spoiled_by_two(rng, case, steps):
+    """Cases that each two checks refuse, with the number that is due. The later change is made first."""
+    for (number, changes), (_, later_changes) in itertools.combinations(steps, 2):
+        for later in some(rng, later_changes):
+            for change in some(rng, changes):
+                yield (number, change(later(case)))
 
 
 def refusals(results, library, rng):

@@ -33,8 +33,19 @@ MEGABYTE = 10**6
 # the arrays of each kind in stored order, each with the number of its check
 ORDER = {PUBLIC_FILE: [(12, "h")], PRIVATE_FILE: [(8, "f"), (11, "f2"), (12, "fq"), (9, "g")], SEALED_FILE: [(12, "e")]}
 KINDS = sorted(reference.KINDS)
+# those that are made of arrays alone, which etru_read and etru_write take
+ARRAY_KINDS = [kind for kind in KINDS if reference.KINDS[kind]]
 # the number after the last kind
 NO_KIND = KINDS[-1] + 1
+
+
+def stored_head(file):
+    """The head of a file with these parts, right or wrong."""
+    return struct.pack(">3sHBHhhHH", file.mark, file.version, file.kind, file.n, *file.q, file.s, file.t)
+
+
+def stored_array(numbers):
+    return struct.pack(f">{len(numbers)}h", *numbers)
 
 
 class File(Changeable):
@@ -57,9 +68,7 @@ class File(Changeable):
         return reference.Parameters(self.n, self.q, self.s, self.t)
 
     def bytes(self):
-        head = struct.pack(">3sHBHhhHH", self.mark, self.version, self.kind, self.n, *self.q, self.s, self.t)
-        numbers = self.numbers()
-        return (head + struct.pack(f">{len(numbers)}h", *numbers) + self.surplus)[: self.length]
+        return (stored_head(self) + stored_array(self.numbers()) + self.surplus)[: self.length]
 
 
 def fits(file):
@@ -386,6 +395,7 @@ def own_head_inputs(rng):
 def other_files(files):
     """Files of other kinds, in another order, missing and too many."""
     public, private, sealed = (file.bytes() for file in files.all())
+    _, bundle = reference.call_write_bundle(files.p, [1], files.sealed.numbers(), reference.bundle_bytes(files.p.n, 1))
     for what, data, number in [
         ("nothing", b"", 16),
         ("the private file alone", private, 16),
@@ -393,6 +403,8 @@ def other_files(files):
         ("the sealed file first", sealed + private, 19),
         ("the public file first", public + sealed, 19),
         ("the public file second", private + public, 19),
+        ("a bundle first", bundle + sealed, 19),
+        ("a bundle second", private + bundle, 19),
         ("the private file twice", private + private, 19),
         ("the private file twice and the sealed file", private + private + sealed, 19),
         ("the sealed file twice", private + sealed + sealed, 7),
@@ -589,7 +601,14 @@ def random_files(rng, n):
 
 
 def wrong_rooms(room):
-    return [0, 1, room - 2, room - 1, room + 1, room + 2, 2 * room]
+    others = {0, 1, room - 2, room - 1, room + 1, room + 2, 2 * room}
+    return sorted(other for other in others if 0 <= other != room)
+
+
+def other_lengths(name):
+    """Changes of the length of one array."""
+    shorter = [lambda numbers: [], lambda numbers: numbers[:-1]]
+    return in_array(name, shorter + [lambda numbers: numbers + [0], lambda numbers: numbers + [0, 0]])
 
 
 def read_steps(rng, file):
@@ -603,8 +622,7 @@ def write_steps(rng, file):
     kinds = [0, NO_KIND, NO_KIND + 1, 255, 256 + file.kind, 2**31 + file.kind, HIGH_U32]
     lengths = setting("byte_room", wrong_rooms(file.byte_room)) + [lambda file: file.but(n=file.n + 1)]
     for name in file.arrays:
-        lengths += in_array(name, [lambda numbers: [], lambda numbers: numbers[:-1]])
-        lengths += in_array(name, [lambda numbers: numbers + [0], lambda numbers: numbers + [0, 0]])
+        lengths += other_lengths(name)
     return [(19, setting("kind", kinds))] + file_parameter_spoils(file) + [(7, lengths)] + array_spoils(rng, file)
 
 
@@ -633,7 +651,7 @@ def reading_and_writing(results, library, rng, all_files):
         results.expect(f"document 01's file of kind {file.kind}", file.bytes(), data)
         right_file(results, library, rng, file)
     tried = sorted(file.kind for file in random_files(random.Random(0), 3))
-    results.expect("the kinds that are read and written", tried, KINDS)
+    results.expect("the kinds that are read and written", tried, ARRAY_KINDS)
     for n in [*range(3, 41), 255, 256, 257, 1023, 1024]:
         for file in random_files(rng, n):
             right_file(results, library, rng, file)
@@ -671,6 +689,12 @@ def maker(results):
         results.expect("sealing", make("seal --public public --message 0123456780 sealed"), 0)
         line = run_program(content("private") + content("sealed"))
         results.expect("opening what was made", line, (0, b"0 0123456780\n", b""))
+        bundle = "bundle --public public --entry 65535=0123456780 --entry 0=FFFFFFFFC0 bundle"
+        results.expect("making a bundle", make(bundle), 0)
+        number, stops, _ = reference.read_bundle(content("bundle"))
+        results.expect("the stops of the bundle that was made", (number, stops), (0, [65535, 0]))
+        results.expect("making a bundle of nothing", make("bundle --public public bundle"), 0)
+        results.expect("reading a bundle of nothing", reference.read_bundle(content("bundle")), (0, [], []))
         for refused_command in [
             "seal --public public --message 01234567 sealed",
             "seal --public public --message 012345678000 sealed",
@@ -678,8 +702,15 @@ def maker(results):
             "seal --public public --message 01234567xx sealed",
             "seal --public private --message 0123456780 sealed",
             "key --s 13 private public",
+            "bundle --public public --entry 1=0123456780 --entry 1=FFFFFFFFC0 bundle",
+            "bundle --public public --entry 1=01234567 bundle",
         ]:
             results.expect(refused_command, make(refused_command), 1)
+        for wrong_command in [
+            "bundle --public public --entry 65536=0123456780 bundle",
+            "bundle --public public --entry 0123456780 bundle",
+        ]:
+            results.expect(wrong_command, make(wrong_command), 2)
 
 
 def main():

@@ -11,7 +11,7 @@ import sys
 
 import etru_reference as reference
 from compare import HIGH32, LOW32, Changeable, Results
-from compare import array_changes, in_array, outputs_after, parameter_spoils, spoiled_in_order
+from compare import array_changes, in_array, outputs_after, parameter_spoils, some, spoiled_by_two, spoiled_in_order
 from etru_reference import UNITS
 from keys import SEALED, SMALL, TRIPLE, Key
 from keys import random_message, random_zero_sum, varied_keys
@@ -200,18 +200,6 @@ def steps_of(rng, case):
     if case.call == "seal_places":
         steps.append((15, in_array("message", array_changes(rng, case, 15, "message"))))
     return [(number, changes) for number, changes in steps if changes]
-
-
-def some(rng, changes):
-    return changes if len(changes) <= 6 else rng.sample(changes, 6)
-
-
-def spoiled_by_two(rng, case, steps):
-    """Cases that each two checks refuse, with the number that is due. The later change is made first."""
-    for (number, changes), (_, later_changes) in itertools.combinations(steps, 2):
-        for later in some(rng, later_changes):
-            for change in some(rng, changes):
-                yield (number, change(later(case)))
 
 
 def refusals_in_order(results, library, rng, all_cases):

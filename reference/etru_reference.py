@@ -351,7 +351,7 @@ def call_unpack(n, m, room):
 
 # ---- Files, as bytes: a head of 16, then arrays of 2N signed 16-bit numbers; numbers are big-endian
 
-PUBLIC_FILE, PRIVATE_FILE, SEALED_FILE = 1, 2, 3
+PUBLIC_FILE, PRIVATE_FILE, SEALED_FILE, BUNDLE_FILE = 1, 2, 3, 4
 
 # the arrays of each kind in stored order, each as the number of its check and the condition
 KINDS = {
@@ -366,6 +366,8 @@ KINDS = {
     ],
     # e
     SEALED_FILE: [(12, lambda p, e: not reduced_q(e, p.q))],
+    # entries and no arrays of its own
+    BUNDLE_FILE: [],
 }
 
 
@@ -395,10 +397,17 @@ def stored_parameters(file):
     return Parameters(unsigned(file[6:8]), q, unsigned(file[12:14]), unsigned(file[14:16]))
 
 
+def signed_numbers(stored):
+    return [signed(stored[at : at + 2]) for at in range(0, len(stored), 2)]
+
+
 def stored_numbers(file, count):
     """The first numbers after the head, as many as this; a file that is too short gives fewer."""
-    end = min(len(file), 16 + 2 * count)
-    return [signed(file[at : at + 2]) for at in range(16, end, 2)]
+    return signed_numbers(file[16 : 16 + 2 * count])
+
+
+def written_head(kind, p):
+    return b"EIZ" + two_bytes(1) + bytes([kind]) + b"".join(map(two_bytes, p.numbers()))
 
 
 def arrays_of(kind, n, numbers):
@@ -407,8 +416,12 @@ def arrays_of(kind, n, numbers):
 
 
 def content_checks(kind, p, numbers, count, length):
-    """What follows the parameters' checks: the count of the numbers, the length of the file, and its arrays."""
-    lengths = [(7, lambda: count != file_numbers(kind, p.n) or length != file_bytes(kind, p.n))]
+    """What follows the parameters' checks: the count of the numbers, the length of the file, and its arrays.
+
+    No length is right where a kind has no arrays: a bundle is read and written by its own calls.
+    """
+    right = (file_numbers(kind, p.n), file_bytes(kind, p.n))
+    lengths = [(7, lambda: not KINDS[kind] or (count, length) != right)]
     arrays = arrays_of(kind, p.n, numbers)
     return lengths + [
         (number, lambda applies=applies, array=array: applies(p, coefficients(array)))
@@ -449,10 +462,7 @@ def call_write(kind, p, numbers, room):
     if number:
         return (number, None)
     number = first(content_checks(kind, p, numbers, len(numbers), room))
-    if number:
-        return (number, None)
-    stored = b"".join(two_bytes(part) for part in [*p.numbers(), *numbers])
-    return (0, b"EIZ" + two_bytes(1) + bytes([kind]) + stored)
+    return (number, None if number else written_head(kind, p) + b"".join(map(two_bytes, numbers)))
 
 
 def read_file(kind, file):
@@ -462,6 +472,107 @@ def read_file(kind, file):
         return (number, None, None)
     number, numbers = call_read(kind, file, file_numbers(kind, p.n))
     return (number, p, None if number else arrays_of(kind, p.n, numbers))
+
+
+# ---- Bundles, document 02's wish 2: a head, a 16-bit count, then so many entries, each a 16-bit stop number and a
+# ---- sealed array of 4N bytes
+
+MOST_BUNDLE_BYTES = 65536
+
+
+def entry_bytes(n):
+    return 2 + 4 * n
+
+
+def bundle_bytes(n, count):
+    return 18 + count * entry_bytes(n)
+
+
+def bundle_length_wrong(n, count, length):
+    return length != bundle_bytes(n, count) or length > MOST_BUNDLE_BYTES
+
+
+def entry_checks(p, stops, arrays):
+    """25 over all stops, and then the entries' own 12 in stored order."""
+    return [
+        (25, lambda: len(set(stops)) < len(stops)),
+        *((12, lambda array=array: not reduced_q(coefficients(array), p.q)) for array in arrays),
+    ]
+
+
+def bundle_head(file):
+    """(number, parameters, count): what is refused before the entries."""
+    number, p = call_read_head(BUNDLE_FILE, file)
+    if number:
+        return (number, None, None)
+    count = unsigned(file[16:18])
+    number = first([(7, lambda: len(file) < 18 or bundle_length_wrong(p.n, count, len(file)))])
+    return (number, p, count)
+
+
+def bundle_entries(file, n, count):
+    """Of each entry the stop and the numbers of its array, in stored order."""
+    entries = [file[at : at + entry_bytes(n)] for at in range(18, bundle_bytes(n, count), entry_bytes(n))]
+    return [(unsigned(entry[:2]), signed_numbers(entry[2:])) for entry in entries]
+
+
+def read_bundle(file, rooms=None):
+    """(number, stops, arrays) in stored order; `rooms` are those of stops and numbers, where these are lent."""
+    number, p, count = bundle_head(file)
+    if number:
+        return (number, None, None)
+    entries = bundle_entries(file, p.n, count)
+    stops, arrays = [stop for stop, _ in entries], [array for _, array in entries]
+    lengths = [(7, lambda: rooms is not None and rooms != (count, 2 * p.n * count))]
+    return (first(lengths + entry_checks(p, stops, arrays)), stops, arrays)
+
+
+def call_read_bundle_head(file):
+    """The value is N, c, d, s, t and the count."""
+    number, p, count = bundle_head(file)
+    return (number, None if number else (*p.numbers(), count))
+
+
+def call_read_bundle(file, stop_room, number_room):
+    """The value is the stops, and the numbers of the arrays, one array after another."""
+    number, stops, arrays = read_bundle(file, (stop_room, number_room))
+    return (number, None if number else (stops, [part for array in arrays for part in array]))
+
+
+def call_begin_bundle(file):
+    """The value is where the first entry stands."""
+    number, _, _ = read_bundle(file)
+    return (number, None if number else 18)
+
+
+def call_next_entry(file, at):
+    """No refusal: 1, with where the next entry stands, the stop and where the array stands; or 0 past the last entry.
+
+    Any bytes and any place may be given: N is what stands in bytes 6 and 7, a byte that is missing being 0.
+    """
+    end = at + entry_bytes(unsigned(file[6:8].ljust(2, b"\0")))
+    return (1, (end, unsigned(file[at : at + 2]), at + 2)) if end <= len(file) else (0, None)
+
+
+def call_write_bundle(p, stops, numbers, room):
+    """The value is the file. `numbers` are 2N for each stop."""
+    count = len(stops)
+    lengths = [(7, lambda: len(numbers) != 2 * p.n * count or bundle_length_wrong(p.n, count, room))]
+    number = first(p.checks() + lengths)
+    if number:
+        return (number, None)
+    arrays = [numbers[at : at + 2 * p.n] for at in range(0, len(numbers), 2 * p.n)]
+    number = first(entry_checks(p, stops, arrays))
+    if number:
+        return (number, None)
+    entries = [two_bytes(part) for stop, array in zip(stops, arrays) for part in [stop, *array]]
+    return (0, written_head(BUNDLE_FILE, p) + two_bytes(count) + b"".join(entries))
+
+
+def call_open_entry(p, f, f2, part, room):
+    """The value is the message; `part` is an entry's sealed array, as bytes."""
+    number = first(p.checks() + [(7, lambda: len(part) != 4 * p.n)])
+    return (number, None) if number else call_open(p, f, f2, signed_numbers(part), room)
 
 
 # ---- The opening program

@@ -11,22 +11,29 @@ ROOT = os.path.dirname(os.path.dirname(os.path.abspath(__file__)))
 ARCHIVE = os.path.join(ROOT, "target", "staticlib", "libetru_c.a")
 SHARED = os.path.join(ROOT, "target", "comparison", "libetru_c.so")
 
-I32, I64, U32, U8 = ctypes.c_int32, ctypes.c_int64, ctypes.c_uint32, ctypes.c_uint8
+I32, I64, U32, U16, U8 = ctypes.c_int32, ctypes.c_int64, ctypes.c_uint32, ctypes.c_uint16, ctypes.c_uint8
+SIZE = ctypes.c_size_t
 
 
 class PlacedUnit(ctypes.Structure):
     _fields_ = [("place", U32), ("unit", U32)]
 
 
-OUT = ctypes.POINTER(I32)
+def outputs(*kinds):
+    """Outputs of one number each."""
+    return [ctypes.POINTER(kind) for kind in kinds]
+
+
+def array(kind):
+    """A slice is lent as its address and its count."""
+    return [ctypes.POINTER(kind), SIZE]
+
+
 PARAMETERS = [U32, I32, I32, U32, U32]
-# a slice is lent as its address and its count
-NUMBERS = [ctypes.POINTER(I32), ctypes.c_size_t]
-BYTES = [ctypes.POINTER(U8), ctypes.c_size_t]
-PLACES = [ctypes.POINTER(PlacedUnit), ctypes.c_size_t]
+NUMBERS, BYTES, PLACES = array(I32), array(U8), array(PlacedUnit)
 ARGUMENTS = {
-    "etru_reduce_q": [I64, I64, I32, I32, OUT, OUT],
-    "etru_reduce_2": [I64, I64, OUT, OUT],
+    "etru_reduce_q": [I64, I64, I32, I32] + outputs(I32, I32),
+    "etru_reduce_2": [I64, I64] + outputs(I32, I32),
     "etru_check_parameters": PARAMETERS,
     "etru_convolve": PARAMETERS + 3 * NUMBERS,
     "etru_check_key": PARAMETERS + 5 * NUMBERS,
@@ -36,10 +43,16 @@ ARGUMENTS = {
     "etru_open": PARAMETERS + 3 * NUMBERS + BYTES,
     "etru_pack": [U32] + BYTES + NUMBERS,
     "etru_unpack": [U32] + NUMBERS + BYTES,
-    "etru_read_head": [U32] + BYTES + [ctypes.POINTER(number_type) for number_type in PARAMETERS],
+    "etru_read_head": [U32] + BYTES + outputs(*PARAMETERS),
     "etru_read": [U32] + BYTES + NUMBERS,
     "etru_write": [U32] + PARAMETERS + NUMBERS + BYTES,
-    "etru_open_files": 2 * BYTES + [ctypes.POINTER(ctypes.c_size_t)],
+    "etru_read_bundle_head": BYTES + outputs(*PARAMETERS, U32),
+    "etru_read_bundle": BYTES + array(U32) + NUMBERS,
+    "etru_write_bundle": PARAMETERS + array(U16) + NUMBERS + BYTES,
+    "etru_open_entry": PARAMETERS + 2 * NUMBERS + 2 * BYTES,
+    "etru_begin_bundle": BYTES + outputs(SIZE),
+    "etru_next_entry": BYTES + outputs(SIZE, U32, SIZE),
+    "etru_open_files": 2 * BYTES + outputs(SIZE),
 }
 
 
@@ -53,7 +66,7 @@ def load():
     for name, arguments in ARGUMENTS.items():
         function = getattr(library, name)
         function.argtypes = arguments
-        function.restype = ctypes.c_uint32
+        function.restype = U32
     return library
 
 
@@ -81,26 +94,30 @@ def call(function, head, inputs, output, after=()):
     return (number, arguments[-2][: len(output)])
 
 
+def call_with_numbers(function, head, inputs, before):
+    """The same where each output is one number."""
+    arguments = with_slices(function, head, inputs)
+    lent_outputs = [kind._type_(value) for kind, value in zip(function.argtypes[len(arguments) :], before)]
+    number = function(*arguments, *map(ctypes.byref, lent_outputs))
+    return (number, tuple(output.value for output in lent_outputs))
+
+
 class Library:
     """Each call returns (number, outputs as they are afterwards)."""
 
     def __init__(self):
         self.library = load()
 
-    def reduce_q(self, x, q, before):
-        ra, rb = ctypes.c_int32(before[0]), ctypes.c_int32(before[1])
-        number = self.library.etru_reduce_q(x[0], x[1], q[0], q[1], ctypes.byref(ra), ctypes.byref(rb))
-        return (number, (ra.value, rb.value))
-
-    def reduce_2(self, x, before):
-        ra, rb = ctypes.c_int32(before[0]), ctypes.c_int32(before[1])
-        number = self.library.etru_reduce_2(x[0], x[1], ctypes.byref(ra), ctypes.byref(rb))
-        return (number, (ra.value, rb.value))
-
     def check_parameters(self, n, q, s, t):
         return self.library.etru_check_parameters(n, q[0], q[1], s, t)
 
-    # In the calls below `before` is what the output holds beforehand, and its length is the room.
+    # In the calls below `before` is what the output holds beforehand; if that is an array, its length is the room.
+
+    def reduce_q(self, x, q, before):
+        return call_with_numbers(self.library.etru_reduce_q, (*x, *q), [], before)
+
+    def reduce_2(self, x, before):
+        return call_with_numbers(self.library.etru_reduce_2, x, [], before)
 
     def convolve(self, n, q, s, t, x, y, before):
         return call(self.library.etru_convolve, (n, *q, s, t), [x, y], before)
@@ -127,11 +144,7 @@ class Library:
         return call(self.library.etru_unpack, (n,), [m], before)
 
     def read_head(self, kind, file, before):
-        function = self.library.etru_read_head
-        arguments = with_slices(function, (kind,), [file])
-        outputs = [number_type(value) for number_type, value in zip(PARAMETERS, before)]
-        number = function(*arguments, *map(ctypes.byref, outputs))
-        return (number, tuple(output.value for output in outputs))
+        return call_with_numbers(self.library.etru_read_head, (kind,), [file], before)
 
     def read(self, kind, file, before):
         return call(self.library.etru_read, (kind,), [file], before)
@@ -139,8 +152,31 @@ class Library:
     def write(self, kind, n, q, s, t, numbers, before):
         return call(self.library.etru_write, (kind, n, *q, s, t), [numbers], before)
 
+    def read_bundle_head(self, file, before):
+        return call_with_numbers(self.library.etru_read_bundle_head, (), [file], before)
+
+    def read_bundle(self, file, before):
+        """The outputs are the stops and the numbers."""
+        stops, numbers = before
+        arguments = with_slices(self.library.etru_read_bundle, (), [file, stops, numbers])
+        number = self.library.etru_read_bundle(*arguments)
+        return (number, (arguments[2][: len(stops)], arguments[4][: len(numbers)]))
+
+    def write_bundle(self, n, q, s, t, stops, numbers, before):
+        return call(self.library.etru_write_bundle, (n, *q, s, t), [stops, numbers], before)
+
+    def open_entry(self, n, q, s, t, f, f2, part, before):
+        return call(self.library.etru_open_entry, (n, *q, s, t), [f, f2, part], before)
+
+    def begin_bundle(self, file, before):
+        return call_with_numbers(self.library.etru_begin_bundle, (), [file], before)
+
+    def next_entry(self, file, before):
+        """The outputs are the place, which is read too, the stop and where the array stands."""
+        return call_with_numbers(self.library.etru_next_entry, (), [file], before)
+
     def open_files(self, data, before, used_before):
         """Returns the number, the line's room and the length used."""
-        used = ctypes.c_size_t(used_before)
+        used = SIZE(used_before)
         number, line = call(self.library.etru_open_files, (), [data], before, [ctypes.byref(used)])
         return (number, line, used.value)

@@ -1,6 +1,6 @@
-"""Make files to try the opening program with: those of a random key, of a sealed message, and of document 01's example.
+"""Make files to try the library with: those of a random key, of sealed messages, and of document 01's example.
 
-Usage: python3 reference/make_files.py {key,seal,example} ...
+Usage: python3 reference/make_files.py {key,seal,bundle,example} ...
 `--help` after a command tells its arguments. The random numbers are Python's, so nothing made here is a secret.
 """
 
@@ -22,8 +22,9 @@ def read_bytes(path):
         sys.exit(str(error))
 
 
-def write_file(path, kind, p, numbers):
-    number, file = reference.call_write(kind, p, numbers, reference.file_bytes(kind, p.n))
+def write_bytes(path, outcome):
+    """Write the file of a call, if it is not refused."""
+    number, file = outcome
     if number:
         sys.exit(f"{path}: refusal {number}")
     try:
@@ -32,6 +33,10 @@ def write_file(path, kind, p, numbers):
     except OSError as error:
         sys.exit(str(error))
     print(f"{path}: {len(file)} bytes")
+
+
+def write_file(path, kind, p, numbers):
+    write_bytes(path, reference.call_write(kind, p, numbers, reference.file_bytes(kind, p.n)))
 
 
 def make_key(arguments):
@@ -59,18 +64,46 @@ def message_of(digits, n):
     return message
 
 
-def make_sealed(arguments):
-    number, p, arrays = reference.read_file(reference.PUBLIC_FILE, read_bytes(arguments.public))
+def public_key(path):
+    """The parameters and h of a public file."""
+    number, p, arrays = reference.read_file(reference.PUBLIC_FILE, read_bytes(path))
     if number:
-        sys.exit(f"{arguments.public}: refusal {number}")
-    message = message_of(arguments.message, p.n)
-    phi = random_zero_sum(random.Random(arguments.seed), p.n, p.s)
-    number, e = reference.call_seal(p, arrays[0], phi, message, 2 * p.n)
+        sys.exit(f"{path}: refusal {number}")
+    return p, arrays[0]
+
+
+def sealed_array(rng, p, h, digits):
+    """A message, given in hexadecimal, sealed with a random φ."""
+    message = message_of(digits, p.n)
+    number, e = reference.call_seal(p, h, random_zero_sum(rng, p.n, p.s), message, 2 * p.n)
     if number:
         # all else is checked or made right above, so this is 15
         spare = 8 * len(message) - 2 * p.n
         sys.exit(f"the message: refusal {number}; with N = {p.n} its last {spare} bits are spare and must be zero")
+    return e
+
+
+def make_sealed(arguments):
+    p, h = public_key(arguments.public)
+    e = sealed_array(random.Random(arguments.seed), p, h, arguments.message)
     write_file(arguments.sealed, reference.SEALED_FILE, p, e)
+
+
+def entry_of(text):
+    """The stop number and the message's digits of an entry that is given as STOP=MESSAGE."""
+    stop, _, digits = text.partition("=")
+    if not (stop.isdecimal() and int(stop) < 2**16):
+        raise argparse.ArgumentTypeError(f"no stop number from 0 to 65535 stands before '=': {text}")
+    return int(stop), digits
+
+
+def make_bundle(arguments):
+    p, h = public_key(arguments.public)
+    rng = random.Random(arguments.seed)
+    stops = [stop for stop, _ in arguments.entry]
+    numbers = [number for _, digits in arguments.entry for number in sealed_array(rng, p, h, digits)]
+    room = reference.bundle_bytes(p.n, len(stops))
+    write_bytes(arguments.bundle, reference.call_write_bundle(p, stops, numbers, room))
 
 
 def make_example(arguments):
@@ -79,8 +112,8 @@ def make_example(arguments):
 
 
 def main():
-    parser = argparse.ArgumentParser(description="Make files to try the opening program with.")
-    commands = parser.add_subparsers(required=True, metavar="{key,seal,example}")
+    parser = argparse.ArgumentParser(description="Make files to try the library with.")
+    commands = parser.add_subparsers(required=True, metavar="{key,seal,bundle,example}")
 
     def add_command(name, make, text):
         command = commands.add_parser(name, help=text, description=text)
@@ -89,6 +122,9 @@ def main():
 
     def add_seed(command):
         command.add_argument("--seed", type=int, help="the seed of the random numbers; without it each run differs")
+
+    def add_public(command):
+        command.add_argument("--public", required=True, help="the public file to read")
 
     key = add_command("key", make_key, "Make a random key, and write its private and its public file.")
     key.add_argument("--n", type=int, default=17, help="N, from 3 to 1,024 (default: 17)")
@@ -114,7 +150,7 @@ def main():
     key.add_argument("public", help="the public file to write, of kind 1: h")
 
     seal = add_command("seal", make_sealed, "Seal a message with a public file and a random φ; write the sealed file.")
-    seal.add_argument("--public", required=True, help="the public file to read")
+    add_public(seal)
     seal.add_argument(
         "--message",
         required=True,
@@ -122,6 +158,21 @@ def main():
     )
     add_seed(seal)
     seal.add_argument("sealed", help="the sealed file to write, of kind 3: e")
+
+    bundle = add_command(
+        "bundle", make_bundle, "Seal a message for each stop of a round, each with a random φ; write the bundle."
+    )
+    add_public(bundle)
+    bundle.add_argument(
+        "--entry",
+        type=entry_of,
+        action="append",
+        default=[],
+        metavar="STOP=MESSAGE",
+        help="a stop number from 0 to 65,535, no one twice, and its message as for seal; once for each entry",
+    )
+    add_seed(bundle)
+    bundle.add_argument("bundle", help="the bundle to write, of kind 4: its entries in the order given")
 
     example = add_command(
         "example", make_example, "Write document 01's example, N = 3 and q = 15: a key and what seals B0 for it."
