@@ -22,6 +22,9 @@ static void expect(const char *what, uint32_t number, uint32_t expected) {
 #define ARRAY (ETRU_ARRAY_NUMBERS(ETRU_MAX_N) + 1)
 #define PRIVATE_NUMBERS (ETRU_PRIVATE_FILE_NUMBERS(ETRU_MAX_N) + 1)
 #define MESSAGE (ETRU_MESSAGE_BYTES(ETRU_MAX_N) + 1)
+// A full bundle has fewer numbers than half its bytes, and the most entries at the least N; there is an entry more.
+#define BUNDLE (ETRU_MAX_BUNDLE_BYTES + ETRU_ENTRY_BYTES(ETRU_MAX_N))
+#define STOPS (ETRU_MAX_BUNDLE_ENTRIES(ETRU_MIN_N) + 1)
 
 // f = F2 = Fq = 1 and g = φ = 1 + ωX + (−1 − ω)X² with q = 15, s = 3, t = 1: document 01's small key, at any N.
 static uint32_t n;
@@ -32,6 +35,10 @@ static uint8_t message[MESSAGE], opened[MESSAGE], line[ETRU_LINE_BYTES + 1];
 static uint8_t public_file[ETRU_PUBLIC_FILE_BYTES(ETRU_MAX_N) + 1];
 static uint8_t private_file[ETRU_PRIVATE_FILE_BYTES(ETRU_MAX_N) + 1];
 static uint8_t sealed_file[ETRU_SEALED_FILE_BYTES(ETRU_MAX_N) + 1];
+static uint16_t stops[STOPS];
+static uint32_t read_stops[STOPS];
+static int32_t bundle_numbers[BUNDLE / 2], read_numbers[BUNDLE / 2];
+static uint8_t bundle[BUNDLE];
 
 // Each call with its counts.
 static uint32_t convolve(const size_t *k) {
@@ -76,6 +83,25 @@ static uint32_t read_private(const size_t *k) {
 static uint32_t read_sealed(const size_t *k) {
     return etru_read(ETRU_SEALED_FILE, sealed_file, k[0], numbers, k[1]);
 }
+static uint32_t write_bundle(const size_t *k) {
+    return etru_write_bundle(n, 15, 0, 3, 1, stops, k[0], bundle_numbers, k[1], bundle, k[2]);
+}
+static uint32_t read_bundle_head(const size_t *k) {
+    uint32_t head_n, s, t, count;
+    int32_t c, d;
+    return etru_read_bundle_head(bundle, k[0], &head_n, &c, &d, &s, &t, &count);
+}
+static uint32_t read_bundle(const size_t *k) {
+    return etru_read_bundle(bundle, k[0], read_stops, k[1], read_numbers, k[2]);
+}
+static uint32_t begin_bundle(const size_t *k) {
+    size_t at;
+    return etru_begin_bundle(bundle, k[0], &at);
+}
+static uint32_t open_entry(const size_t *k) {
+    const uint8_t *e_bytes = sealed_file + ETRU_HEAD_BYTES;
+    return etru_open_entry(n, 15, 0, 3, 1, one, k[0], one, k[1], e_bytes, k[2], opened, k[3]);
+}
 static uint32_t open_files(const size_t *k) {
     size_t used;
     return etru_open_files(private_file, ETRU_PRIVATE_FILE_BYTES(n), line, k[0], &used);
@@ -111,9 +137,20 @@ static void try_counts(const struct call *call) {
     }
 }
 
+// So many entries for a bundle, each with e; the stops fall to 1.
+static void fill_bundle(size_t count) {
+    const size_t array = ETRU_ARRAY_NUMBERS(n);
+    for (size_t i = 0; i < count; i++) {
+        stops[i] = (uint16_t)(count - i);
+        memcpy(bundle_numbers + i * array, e, array * sizeof e[0]);
+    }
+}
+
 // A later call uses what an earlier one wrote.
 static void try_lengths(void) {
     const size_t array = ETRU_ARRAY_NUMBERS(n), bytes = ETRU_MESSAGE_BYTES(n);
+    const size_t most = ETRU_MAX_BUNDLE_ENTRIES(n);
+    const size_t bundle_bytes = ETRU_BUNDLE_FILE_BYTES(n, most), bundled = ETRU_BUNDLE_FILE_NUMBERS(n, most);
     const struct call calls[] = {
         {"etru_convolve", convolve, {array, array, array}},
         {"etru_check_key", check_key, {array, array, array, array, array}},
@@ -129,12 +166,18 @@ static void try_lengths(void) {
         {"etru_read, public", read_public, {ETRU_PUBLIC_FILE_BYTES(n), ETRU_PUBLIC_FILE_NUMBERS(n)}},
         {"etru_read, private", read_private, {ETRU_PRIVATE_FILE_BYTES(n), ETRU_PRIVATE_FILE_NUMBERS(n)}},
         {"etru_read, sealed", read_sealed, {ETRU_SEALED_FILE_BYTES(n), ETRU_SEALED_FILE_NUMBERS(n)}},
+        {"etru_write_bundle", write_bundle, {most, bundled, bundle_bytes}},
+        {"etru_read_bundle_head", read_bundle_head, {bundle_bytes}},
+        {"etru_read_bundle", read_bundle, {bundle_bytes, most, bundled}},
+        {"etru_begin_bundle", begin_bundle, {bundle_bytes}},
+        {"etru_open_entry", open_entry, {array, array, ETRU_PART_BYTES(n), bytes}},
         {"etru_open_files", open_files, {ETRU_LINE_BYTES}},
     };
     memcpy(key, one, array * sizeof key[0]);
     memcpy(key + array, one, array * sizeof key[0]);
     memcpy(key + 2 * array, one, array * sizeof key[0]);
     memcpy(key + 3 * array, triple, array * sizeof key[0]);
+    fill_bundle(most);
     for (size_t i = 0; i < sizeof calls / sizeof calls[0]; i++) {
         try_counts(&calls[i]);
     }
@@ -149,6 +192,9 @@ static void try_lengths(void) {
         expect(#macro, sizeof macro(3) == sizeof(size_t) && 1000 % macro(1 ? 3 : 0) == 1000 % length, 1); \
     } while (0)
 
+#define NUMBERS_OF_TWO_ENTRIES(n) ETRU_BUNDLE_FILE_NUMBERS(n, 1 ? 2 : 0)
+#define BYTES_OF_TWO_ENTRIES(n) ETRU_BUNDLE_FILE_BYTES(n, 1 ? 2 : 0)
+
 static void try_macros(void) {
     EXPECT_OPERAND(ETRU_ARRAY_NUMBERS);
     EXPECT_OPERAND(ETRU_MESSAGE_BYTES);
@@ -158,6 +204,52 @@ static void try_macros(void) {
     EXPECT_OPERAND(ETRU_PUBLIC_FILE_BYTES);
     EXPECT_OPERAND(ETRU_PRIVATE_FILE_BYTES);
     EXPECT_OPERAND(ETRU_SEALED_FILE_BYTES);
+    EXPECT_OPERAND(ETRU_PART_BYTES);
+    EXPECT_OPERAND(ETRU_ENTRY_BYTES);
+    EXPECT_OPERAND(NUMBERS_OF_TWO_ENTRIES);
+    EXPECT_OPERAND(BYTES_OF_TWO_ENTRIES);
+    EXPECT_OPERAND(ETRU_MAX_BUNDLE_ENTRIES);
+}
+
+// ---- Bundles
+
+static uint32_t write_entries(size_t count) {
+    const size_t counts[] = {count, ETRU_BUNDLE_FILE_NUMBERS(n, count), ETRU_BUNDLE_FILE_BYTES(n, count)};
+    return write_bundle(counts);
+}
+
+// A walk through a bundle of so many entries, with what the header says of lengths: each part is the sealed array.
+static void try_walk(size_t count) {
+    const size_t file_count = ETRU_BUNDLE_FILE_BYTES(n, count);
+    size_t at, part, entries = 0;
+    uint32_t stop, right = 1;
+    fill_bundle(count);
+    expect("a bundle written", write_entries(count), ETRU_OK);
+    expect("a bundle begun", etru_begin_bundle(bundle, file_count, &at), ETRU_OK);
+    while (etru_next_entry(bundle, file_count, &at, &stop, &part)) {
+        const int next = at == file_count - (count - entries - 1) * ETRU_ENTRY_BYTES(n);
+        const int sealed = memcmp(bundle + part, sealed_file + ETRU_HEAD_BYTES, ETRU_PART_BYTES(n)) == 0;
+        right = right && stop == stops[entries] && next && part + ETRU_PART_BYTES(n) == at && sealed;
+        entries++;
+    }
+    expect("the entries of a bundle", right && entries == count, 1);
+    stop = 77;
+    part = 78;
+    expect("a step past the end", etru_next_entry(bundle, file_count, &at, &stop, &part), 0);
+    expect("nothing is written past the end", at == file_count && stop == 77 && part == 78, 1);
+}
+
+// What try_lengths sealed, in bundles of no entry, of one and of the most that the header says, and in one of one more.
+static void try_bundles(void) {
+    const size_t most = ETRU_MAX_BUNDLE_ENTRIES(n);
+    try_walk(0);
+    try_walk(1);
+    try_walk(most);
+    expect("ETRU_MAX_BUNDLE_BYTES", ETRU_BUNDLE_FILE_BYTES(n, most) <= ETRU_MAX_BUNDLE_BYTES, 1);
+    stops[most - 1] = stops[0];
+    expect("a stop twice", write_entries(most), ETRU_STOP_OCCURS_TWICE);
+    fill_bundle(most + 1);
+    expect("ETRU_MAX_BUNDLE_ENTRIES + 1", write_entries(most + 1), ETRU_WRONG_LENGTH);
 }
 
 // ---- Records of places
@@ -216,9 +308,11 @@ int main(void) {
     n = ETRU_MIN_N;
     try_lengths();
     try_places();
+    try_bundles();
     n = ETRU_MAX_N;
     try_lengths();
     try_places();
+    try_bundles();
     try_macros();
     try_limits();
     printf("%u passed, %u failed\n", passed, failed);

@@ -37,12 +37,13 @@ static const char *const conditions[] = {
     [ETRU_HEAD_TOO_SHORT] = "fewer than 16 bytes",
     [ETRU_MARK_NOT_EIZ] = "mark is not EIZ",
     [ETRU_VERSION_NOT_ONE] = "version is not 1",
-    [ETRU_KIND_NOT_WANTED] = "kind is not the one wanted, or not 1 to 3",
+    [ETRU_KIND_NOT_WANTED] = "kind is not the one wanted, or not 1 to 4",
     [ETRU_PARAMETERS_DIFFER] = "the two files' parameters differ",
     [ETRU_MODULUS_ZERO] = "modulus zero",
     [ETRU_VALUE_OUT_OF_RANGE] = "a part of the value below -2^40 or above 2^40",
     [ETRU_PLACE_OR_UNIT_OUT_OF_RANGE] = "a place is N or more, or a unit number is above 5",
     [ETRU_PLACE_OCCURS_TWICE] = "a place occurs twice",
+    [ETRU_STOP_OCCURS_TWICE] = "a stop number occurs twice",
 };
 
 // All memory is the caller's. These have room for the largest N; a call is lent as much of each as its N asks for.

@@ -1,10 +1,12 @@
 // The C interface of Rolphiek: ETRU, NTRU over the Eisenstein integers Z[ω], with p = 2. For C99 and C++.
 // "Document 01" is the specification, and "document 02" has the later requests. Link libetru_c.a, which
-// `rt staticlib etru_c` proves and builds; examples/seal_and_open.c is a program to begin with.
+// `rt staticlib etru_c` proves and builds; examples/seal_and_open.c is a program to begin with, and
+// examples/open_bundle.c opens the messages of a bundle.
 //
 // What a call gives
 //   Each function returns 0, or the number of the first of the documents' refusals that applies, in the order stated at
-//   the function. Outputs are written only when 0 is returned; otherwise each output is as it came.
+//   the function. Outputs are written only when 0 is returned; otherwise each output is as it came. One function
+//   refuses nothing and returns something else: etru_next_entry.
 //   Any values, contents and counts may be given: what is wrong is refused, and no call relies on its caller's checks.
 //
 // What is lent
@@ -17,8 +19,9 @@
 // What a call takes
 //   Nothing is allocated, and there is no global state: calls may run in several threads at once, as long as nobody
 //   changes what is lent to a call, or uses its outputs, before it returns. No call depends on an earlier one.
-//   Stack, at every N: etru_open_files at most 72 KiB, etru_seal_places 36 KiB, etru_open, etru_check_key and
-//   etru_spread_places 28 KiB, etru_seal and etru_read 12 KiB, each other function 1 KiB.
+//   Stack, at every N: etru_open_files at most 72 KiB, etru_seal_places 36 KiB, etru_open, etru_open_entry,
+//   etru_check_key and etru_spread_places 28 KiB, etru_read_bundle and etru_begin_bundle 20 KiB, etru_seal and
+//   etru_read 12 KiB, each other function 1 KiB.
 //   Of the C library at most memcmp, memcpy, memmove and memset are needed.
 //
 // What is not promised
@@ -72,7 +75,7 @@ enum etru_refusal {
     ETRU_HEAD_TOO_SHORT = 16,                 // fewer than 16 bytes
     ETRU_MARK_NOT_EIZ = 17,                   // mark is not EIZ
     ETRU_VERSION_NOT_ONE = 18,                // version is not 1
-    ETRU_KIND_NOT_WANTED = 19,                // kind is not the one wanted, or not 1 to 3
+    ETRU_KIND_NOT_WANTED = 19,                // kind is not the one wanted, or not 1 to 4
     // Program
     ETRU_PARAMETERS_DIFFER = 20,              // the two files' parameters differ
     // One value
@@ -80,14 +83,17 @@ enum etru_refusal {
     ETRU_VALUE_OUT_OF_RANGE = 22,             // a part of the value below −2^40 or above 2^40
     // Ephemeral as places
     ETRU_PLACE_OR_UNIT_OUT_OF_RANGE = 23,     // a place is N or more, or a unit number is above 5
-    ETRU_PLACE_OCCURS_TWICE = 24              // a place occurs twice
+    ETRU_PLACE_OCCURS_TWICE = 24,             // a place occurs twice
+    // Bundle
+    ETRU_STOP_OCCURS_TWICE = 25               // a stop number occurs twice
 };
 
 // The kinds of file, each with its arrays in stored order.
 enum etru_file_kind {
     ETRU_PUBLIC_FILE = 1,   // h
     ETRU_PRIVATE_FILE = 2,  // f, F2, Fq, g
-    ETRU_SEALED_FILE = 3    // e
+    ETRU_SEALED_FILE = 3,   // e
+    ETRU_BUNDLE_FILE = 4    // entries: each a stop number and an e
 };
 
 // Limits: N is from ETRU_MIN_N to ETRU_MAX_N, s from ETRU_MIN_S and t from ETRU_MIN_T to N, and no part of q or of a
@@ -113,6 +119,17 @@ enum etru_file_kind {
 #define ETRU_PUBLIC_FILE_BYTES(n) (ETRU_HEAD_BYTES + 2 * ETRU_PUBLIC_FILE_NUMBERS(n))
 #define ETRU_PRIVATE_FILE_BYTES(n) (ETRU_HEAD_BYTES + 2 * ETRU_PRIVATE_FILE_NUMBERS(n))
 #define ETRU_SEALED_FILE_BYTES(n) (ETRU_HEAD_BYTES + 2 * ETRU_SEALED_FILE_NUMBERS(n))
+
+// The bytes of an entry's sealed array, which is the part of a bundle that etru_open_entry takes, and of an entry.
+#define ETRU_PART_BYTES(n) (2 * ETRU_ARRAY_NUMBERS(n))
+#define ETRU_ENTRY_BYTES(n) (2 + ETRU_PART_BYTES(n))
+
+// The numbers and the bytes of a bundle with so many entries, and how many entries a bundle may have at most, which is
+// as many as ETRU_MAX_BUNDLE_BYTES bytes hold.
+#define ETRU_BUNDLE_FILE_NUMBERS(n, count) ((size_t)(count) * ETRU_ARRAY_NUMBERS(n))
+#define ETRU_BUNDLE_FILE_BYTES(n, count) (ETRU_HEAD_BYTES + 2 + (size_t)(count) * ETRU_ENTRY_BYTES(n))
+#define ETRU_MAX_BUNDLE_BYTES ((size_t)65536)
+#define ETRU_MAX_BUNDLE_ENTRIES(n) ((ETRU_MAX_BUNDLE_BYTES - ETRU_BUNDLE_FILE_BYTES(n, 0)) / ETRU_ENTRY_BYTES(n))
 
 // The longest line of etru_open_files: `0`, a space, 256 bytes in hexadecimal and a newline.
 #define ETRU_LINE_BYTES ((size_t)515)
@@ -243,32 +260,108 @@ uint32_t etru_unpack(uint32_t n, const int32_t *m, size_t m_count, uint8_t *mess
 // A head of 16 bytes (EIZ, version 1, the kind, and N, c, d, s, t), then the arrays of the kind, as signed 16-bit
 // numbers; all numbers are big-endian. The numbers of all arrays are lent at once, one array after another in stored
 // order: in those of a private file f begins at 0, F2 at 2N, Fq at 4N and g at 6N.
+// A bundle is not made of arrays alone, and has calls of its own below.
 
 // The parameters of a file, from its head alone; they tell how long the file is, and how many numbers etru_read gives.
-//   kind           the kind wanted, from 1 to 3
+//   kind           the kind wanted, from 1 to 4
 //   file           the file, or its first 16 bytes or more: only those are looked at
 //   n, c, d, s, t  outputs: an accepted parameter set
-// Refusals in order: 16, 17, 18; 19 if the kind wanted is not 1 to 3, or the file's is another; 1 to 6.
+// Refusals in order: 16, 17, 18; 19 if the kind wanted is not 1 to 4, or the file's is another; 1 to 6.
 uint32_t etru_read_head(uint32_t kind, const uint8_t *file, size_t file_count,
                         uint32_t *n, int32_t *c, int32_t *d, uint32_t *s, uint32_t *t);
 
 // The numbers of a file. Each array is checked by its own set; whether F2 and Fq are inverses of f is left to
 // etru_check_key. With n from the file's own head:
-//   kind     the kind wanted, from 1 to 3
+//   kind     the kind wanted: ETRU_PUBLIC_FILE, ETRU_PRIVATE_FILE or ETRU_SEALED_FILE
 //   file     the whole file and no more: ETRU_PUBLIC_FILE_BYTES(n), ETRU_PRIVATE_FILE_BYTES(n) or
 //            ETRU_SEALED_FILE_BYTES(n) bytes
 //   numbers  output: ETRU_PUBLIC_FILE_NUMBERS(n), ETRU_PRIVATE_FILE_NUMBERS(n) or ETRU_SEALED_FILE_NUMBERS(n) numbers
-// Refusals in order: 16, 17, 18; 19 as for etru_read_head; 1 to 6; 7 for file or numbers; then
-//   of a public file 12 for h; of a private file 8 for f, 11 for F2, 12 for Fq, 9 for g; of a sealed file 12 for e.
+// Refusals in order: 16, 17, 18; 19 as for etru_read_head; 1 to 6; 7 for file or numbers, and always where a bundle is
+//   wanted; then of a public file 12 for h; of a private file 8 for f, 11 for F2, 12 for Fq, 9 for g; of a sealed file
+//   12 for e.
 uint32_t etru_read(uint32_t kind, const uint8_t *file, size_t file_count, int32_t *numbers, size_t numbers_count);
 
 // A file of these parameters and numbers, which etru_read reads back to the same.
-//   kind     from 1 to 3
+//   kind     ETRU_PUBLIC_FILE, ETRU_PRIVATE_FILE or ETRU_SEALED_FILE
 //   numbers  ETRU_PUBLIC_FILE_NUMBERS(n), ETRU_PRIVATE_FILE_NUMBERS(n) or ETRU_SEALED_FILE_NUMBERS(n) numbers
 //   file     output: ETRU_PUBLIC_FILE_BYTES(n), ETRU_PRIVATE_FILE_BYTES(n) or ETRU_SEALED_FILE_BYTES(n) bytes
-// Refusals in order: 19 if kind is not 1 to 3; 1 to 6; 7 for numbers or file; then as for etru_read, array by array.
+// Refusals in order: 19 if kind is not 1 to 4; 1 to 6; 7 for numbers or file, and always for a bundle; then as for
+//   etru_read, array by array.
 uint32_t etru_write(uint32_t kind, uint32_t n, int32_t c, int32_t d, uint32_t s, uint32_t t,
                     const int32_t *numbers, size_t numbers_count, uint8_t *file, size_t file_count);
+
+// ---- Bundles
+//
+// A bundle has the sealed arrays of a round in one file: a head of kind 4, a count, then so many entries, each a stop
+// number, which no other entry has, and a sealed array. A count of 0 is allowed, and the order of the entries is open.
+//
+// It is read where it stands. etru_begin_bundle makes every check once; etru_next_entry then tells, entry by entry, the
+// stop and where in the file the sealed array is, and etru_open_entry opens that part of the file:
+//
+//     if (etru_begin_bundle(file, file_count, &at) == ETRU_OK) {
+//         while (etru_next_entry(file, file_count, &at, &stop, &part)) {
+//             // the sealed array of stop: the ETRU_PART_BYTES(n) bytes from file + part on
+//         }
+//     }
+//
+// Only etru_next_entry knows where an entry stands and in how many bytes its stop is stored, since later versions of
+// the file may have longer heads and wider stops.
+
+// The parameters and the count of a bundle, which tell what to lend to the other calls. The entries are not checked.
+//   file           the whole bundle and no more: ETRU_BUNDLE_FILE_BYTES(n, count) bytes
+//   n, c, d, s, t  outputs: an accepted parameter set
+//   count          output: how many entries there are
+// Refusals in order: 16, 17, 18; 19 if the file's kind is not 4; 1 to 6; 7 if the file has not as many bytes as its
+//   count says, or more than ETRU_MAX_BUNDLE_BYTES.
+uint32_t etru_read_bundle_head(const uint8_t *file, size_t file_count,
+                               uint32_t *n, int32_t *c, int32_t *d, uint32_t *s, uint32_t *t, uint32_t *count);
+
+// Checks a whole bundle, and tells where its first entry stands.
+//   file  the whole bundle and no more
+//   at    output: where etru_next_entry begins
+// Refusals in order: as for etru_read_bundle_head; 25 if a stop occurs twice; 12 for each array in stored order.
+uint32_t etru_begin_bundle(const uint8_t *file, size_t file_count, size_t *at);
+
+// One step through a bundle that etru_begin_bundle did not refuse. Returns 1 if an entry stands at `at`, and then
+// writes all three; returns 0 past the last entry, however often it is asked, and then writes nothing.
+//   file  the bundle, as it was lent to etru_begin_bundle
+//   at    input and output: where an entry stands, and then where the next one does
+//   stop  output: the entry's stop number
+//   part  output: where in the file its sealed array begins, which has ETRU_PART_BYTES(n) bytes
+// Any bytes and any `at` may be given, and nothing outside of the file is told: with N what bytes 6 and 7 hold, where a
+// missing byte is 0, an entry stands at `at` if the file has ETRU_ENTRY_BYTES(N) bytes or more from there on.
+uint32_t etru_next_entry(const uint8_t *file, size_t file_count, size_t *at, uint32_t *stop, size_t *part);
+
+// Opens an entry: gives what etru_open gives with the numbers of its sealed array. As there, check the key once by
+// etru_check_key. Of a bundle that etru_begin_bundle did not refuse, no part is refused with the bundle's parameters.
+//   f        ETRU_ARRAY_NUMBERS(n) numbers: exactly t nonzero coefficients, each a unit
+//   f2       ETRU_ARRAY_NUMBERS(n) numbers: F2, reduced modulo 2
+//   part     ETRU_PART_BYTES(n) bytes: the sealed array, reduced modulo q
+//   message  output, ETRU_MESSAGE_BYTES(n) bytes
+// Refusals in order: 1 to 6; 7 for f, f2, part or message; 8 for f; 11 for F2; 12 for part.
+uint32_t etru_open_entry(uint32_t n, int32_t c, int32_t d, uint32_t s, uint32_t t,
+                         const int32_t *f, size_t f_count, const int32_t *f2, size_t f2_count,
+                         const uint8_t *part, size_t part_count, uint8_t *message, size_t message_count);
+
+// The stops and arrays of a bundle, all at once. With n and count from etru_read_bundle_head:
+//   file     the whole bundle and no more
+//   stops    output: count numbers, the stops in stored order
+//   numbers  output: ETRU_BUNDLE_FILE_NUMBERS(n, count) numbers, the arrays in the same order, one after another
+// Refusals in order: as for etru_read_bundle_head, with 7 also for stops or numbers; 25 if a stop occurs twice; 12 for
+//   each array in stored order.
+uint32_t etru_read_bundle(const uint8_t *file, size_t file_count, uint32_t *stops, size_t stops_count,
+                          int32_t *numbers, size_t numbers_count);
+
+// A bundle of these parameters, stops and arrays, in the order given; etru_read_bundle reads it back to the same.
+//   stops    up to ETRU_MAX_BUNDLE_ENTRIES(n) numbers, no one twice
+//   numbers  ETRU_BUNDLE_FILE_NUMBERS(n, stops_count) numbers: the sealed arrays, one after another, reduced modulo q
+//   file     output: ETRU_BUNDLE_FILE_BYTES(n, stops_count) bytes, at most ETRU_MAX_BUNDLE_BYTES
+// Refusals in order: 1 to 6; 7 for numbers or file; 25 if a stop occurs twice; 12 for each array in order.
+uint32_t etru_write_bundle(uint32_t n, int32_t c, int32_t d, uint32_t s, uint32_t t,
+                           const uint16_t *stops, size_t stops_count, const int32_t *numbers, size_t numbers_count,
+                           uint8_t *file, size_t file_count);
+
+// ---- The opening program
 
 // The opening program's work. The line is a refusal number in decimal (0 if none), a space, the message in uppercase
 // hexadecimal or a hyphen after a refusal, and a newline; no zero byte follows. Every input has its line, so 0 is
