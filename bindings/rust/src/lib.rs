@@ -10,14 +10,14 @@
 //! A polynomial of N coefficients is an array of 2N numbers a0, b0, a1, b1 and so on; coefficient i
 //! is ai + biω. A message is N/4 bytes, rounded up, highest bit first, and the spare low bits of
 //! its last byte are zero. An ephemeral φ is an array too, or a list of its units with their places
-//! ([`PlacedUnit`]).
+//! ([`PlacedUnit`]). The sealed arrays of a round are one file, a [`Bundle`].
 //!
 //! Slices of any length, with any contents, and any numbers may be given: what is wrong is refused.
 //! A call that returns an error leaves the outputs that it was lent as they came. No call panics,
 //! allocates or keeps anything, and any may be made from several threads at once. At every N
-//! [`open_files`] takes at most 72 KiB of stack, [`seal_places`] 36 KiB, [`open`],
-//! [`check_key`] and [`spread_places`] 28 KiB, [`seal`] and [`read`] 12 KiB and each other
-//! call 1 KiB.
+//! [`open_files`] takes at most 72 KiB of stack, [`seal_places`] 36 KiB, [`open`], [`open_entry`],
+//! [`check_key`] and [`spread_places`] 28 KiB, [`Bundle::new`] and [`read_bundle`] 20 KiB, [`seal`]
+//! and [`read`] 12 KiB and each other call 1 KiB.
 //!
 //! # Example
 //!
@@ -75,13 +75,19 @@
 #![deny(clippy::unreachable)]
 #![deny(clippy::unwrap_used)]
 
+mod bundles;
 mod lengths;
 mod parameters;
 mod refusals;
 mod sys;
 
+pub use bundles::{
+    open_entry, read_bundle, read_bundle_head, write_bundle, Bundle, BundleHead, Entries, Entry,
+};
 pub use lengths::{
-    array_numbers, file_bytes, file_numbers, message_bytes, HEAD_BYTES, LINE_BYTES, VALUE_LIMIT,
+    array_numbers, bundle_bytes, bundle_numbers, entry_bytes, file_bytes, file_numbers,
+    max_bundle_entries, message_bytes, part_bytes, HEAD_BYTES, LINE_BYTES, MAX_BUNDLE_BYTES,
+    VALUE_LIMIT,
 };
 pub use parameters::Parameters;
 use refusals::outcome;
@@ -115,6 +121,10 @@ pub enum Kind {
     Private = 2,
     /// A sealed message: e.
     Sealed = 3,
+    /// The sealed messages of a round: entries, each a stop number and an e. It is not made of
+    /// arrays alone, so [`read`] and [`write`] refuse it by 7; [`Bundle`], [`read_bundle`] and
+    /// [`write_bundle`] are for it.
+    Bundle = 4,
 }
 
 /// The remainder of a + bω modulo q = c + dω: the value of the same class with the smallest norm;
@@ -371,13 +381,7 @@ pub fn unpack(n: u32, m: &[i32], message: &mut [u8]) -> Result<(), Error> {
 ///
 /// Refusals 16 to 19, 1 to 6.
 pub fn read_head(kind: Kind, file: &[u8]) -> Result<Parameters, Error> {
-    let mut p = Parameters {
-        n: 0,
-        c: 0,
-        d: 0,
-        s: 0,
-        t: 0,
-    };
+    let mut p = Parameters::ZEROS;
     // SAFETY: the pointer and count are those of one slice, and the fields are different places of
     // a local set.
     let number = unsafe {

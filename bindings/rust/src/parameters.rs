@@ -38,6 +38,15 @@ impl Parameters {
     /// The least t. The largest is N.
     pub const MIN_T: u32 = 1;
 
+    /// What a set holds before a head is read to it; it is not accepted.
+    pub(crate) const ZEROS: Parameters = Parameters {
+        n: 0,
+        c: 0,
+        d: 0,
+        s: 0,
+        t: 0,
+    };
+
     /// A parameter set that is accepted.
     ///
     /// # Errors

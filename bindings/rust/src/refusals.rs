@@ -60,13 +60,14 @@ refusals! {
     HeadTooShort = 16, "fewer than 16 bytes";
     MarkNotEiz = 17, "mark is not EIZ";
     VersionNotOne = 18, "version is not 1";
-    KindNotWanted = 19, "kind is not the one wanted, or not 1 to 3";
+    KindNotWanted = 19, "kind is not the one wanted, or not 1 to 4";
     /// Only the line of [`open_files`](crate::open_files) tells it.
     ParametersDiffer = 20, "the two files' parameters differ";
     ModulusZero = 21, "modulus zero";
     ValueOutOfRange = 22, "a part of the value below −2^40 or above 2^40";
     PlaceOrUnitOutOfRange = 23, "a place is N or more, or a unit number is above 5";
     PlaceOccursTwice = 24, "a place occurs twice";
+    StopOccursTwice = 25, "a stop number occurs twice";
 }
 
 impl Refusal {

@@ -1,7 +1,8 @@
 //! The exports of `libetru_c.a`.
 //!
 //! Each returns the documents' refusal number, 0 if nothing is refused, and writes to its outputs
-//! only then. Any lengths, contents and numbers may be given. What a caller has to see to: each
+//! only then; but `etru_next_entry` returns 1 if there is an entry, and writes to its outputs only
+//! then. Any lengths, contents and numbers may be given. What a caller has to see to: each
 //! pointer is not null, is aligned and is valid for the count after it, or for one number where it
 //! has none, and no output overlaps another argument.
 
@@ -148,6 +149,66 @@ extern "C" {
         d: i32,
         s: u32,
         t: u32,
+        numbers: *const i32,
+        numbers_count: usize,
+        file: *mut u8,
+        file_count: usize,
+    ) -> u32;
+
+    pub fn etru_read_bundle_head(
+        file: *const u8,
+        file_count: usize,
+        n: *mut u32,
+        c: *mut i32,
+        d: *mut i32,
+        s: *mut u32,
+        t: *mut u32,
+        count: *mut u32,
+    ) -> u32;
+
+    pub fn etru_begin_bundle(file: *const u8, file_count: usize, at: *mut usize) -> u32;
+
+    pub fn etru_next_entry(
+        file: *const u8,
+        file_count: usize,
+        at: *mut usize,
+        stop: *mut u32,
+        part: *mut usize,
+    ) -> u32;
+
+    pub fn etru_open_entry(
+        n: u32,
+        c: i32,
+        d: i32,
+        s: u32,
+        t: u32,
+        f: *const i32,
+        f_count: usize,
+        f2: *const i32,
+        f2_count: usize,
+        part: *const u8,
+        part_count: usize,
+        message: *mut u8,
+        message_count: usize,
+    ) -> u32;
+
+    pub fn etru_read_bundle(
+        file: *const u8,
+        file_count: usize,
+        stops: *mut u32,
+        stops_count: usize,
+        numbers: *mut i32,
+        numbers_count: usize,
+    ) -> u32;
+
+    pub fn etru_write_bundle(
+        n: u32,
+        c: i32,
+        d: i32,
+        s: u32,
+        t: u32,
+        stops: *const u16,
+        stops_count: usize,
         numbers: *const i32,
         numbers_count: usize,
         file: *mut u8,

@@ -3,7 +3,7 @@
 
 use std::fmt::Debug;
 
-use etru::{Error, Kind, Pair, Parameters, PlacedUnit};
+use etru::{Bundle, BundleHead, Error, Kind, Pair, Parameters, PlacedUnit};
 
 use crate::definitions::{self, Value};
 use crate::drawing::Rng;
@@ -191,6 +191,91 @@ pub fn write(
     agree_on_bytes(rng, room, wanted, |file| {
         etru::write(kind, p, numbers, file)
     })
+}
+
+pub fn read_bundle_head(file: &[u8]) -> Result<BundleHead, u32> {
+    let wanted = definitions::read_bundle_head(file);
+    assert_eq!(numbered(etru::read_bundle_head(file)), wanted);
+    wanted
+}
+
+/// Both outputs are written, or neither is.
+pub fn read_bundle(
+    rng: &mut Rng,
+    file: &[u8],
+    rooms: (usize, usize),
+) -> Result<(Vec<u32>, Vec<i32>), u32> {
+    let wanted = definitions::read_bundle(file, Some(rooms));
+    let stops = wanted.clone().map(|(stops, _)| stops);
+    let numbers = wanted.clone().map(|(_, numbers)| numbers);
+    let before = rng.numbers(rooms.0 + 2 * MARGIN);
+    let before = before.into_iter().map(|number| number as u32).collect();
+    agree(before, &stops, |stops| {
+        let mut given = Ok(());
+        agree(rng.numbers(rooms.1 + 2 * MARGIN), &numbers, |numbers| {
+            given = etru::read_bundle(file, stops, numbers);
+            given
+        });
+        given
+    });
+    wanted
+}
+
+pub fn write_bundle(
+    rng: &mut Rng,
+    p: Parameters,
+    stops: &[u16],
+    numbers: &[i32],
+    room: usize,
+) -> Result<Vec<u8>, u32> {
+    let wanted = definitions::write_bundle(p, stops, numbers, room);
+    agree_on_bytes(rng, room, wanted, |file| {
+        etru::write_bundle(p, stops, numbers, file)
+    })
+}
+
+pub fn open_entry(
+    rng: &mut Rng,
+    p: Parameters,
+    f: &[i32],
+    f2: &[i32],
+    part: &[u8],
+    room: usize,
+) -> Result<Vec<u8>, u32> {
+    let wanted = definitions::open_entry(p, f, f2, part, room);
+    agree_on_bytes(rng, room, wanted, |message| {
+        etru::open_entry(p, f, f2, part, message)
+    })
+}
+
+/// Makes a bundle of these bytes and walks it: its parameters, and its entries, each a part of the
+/// bytes themselves. Returns the number of entries.
+pub fn walk(file: &[u8]) -> Result<usize, u32> {
+    let wanted = definitions::read_bundle(file, None);
+    let made = numbered(Bundle::new(file));
+    assert_eq!(
+        made.map(|_| ()),
+        wanted.as_ref().map(|_| ()).map_err(|&number| number)
+    );
+    let bundle = made?;
+    let p = bundle.parameters();
+    let stored = definitions::entries(file, p.n);
+    assert_eq!(numbered(etru::read_head(Kind::Bundle, file)), Ok(p));
+    assert_eq!(bundle.len(), stored.len());
+    assert_eq!(bundle.is_empty(), stored.is_empty());
+    let mut entries = bundle.entries();
+    for (k, (stop, part)) in stored.iter().enumerate() {
+        assert_eq!(entries.len(), stored.len() - k);
+        let entry = entries.next().expect("an entry is left");
+        assert_eq!((entry.stop, entry.part), (*stop, &part[..]));
+        let start = 18 + (2 + 4 * p.n as usize) * k;
+        assert!(std::ptr::eq(entry.part, &file[start + 2..][..part.len()]));
+    }
+    for _ in 0..3 {
+        assert_eq!(entries.len(), 0);
+        assert_eq!(entries.next(), None);
+    }
+    Ok(stored.len())
 }
 
 /// Returns the line. What stands behind it is to be left as it came.

@@ -1,7 +1,7 @@
 //! The documents in plain Rust, to be obviously right rather than fast. A call gives its value or a
 //! refusal's number; `room` is the length of the output that it is lent.
 
-use etru::{Kind, Parameters, PlacedUnit};
+use etru::{BundleHead, Kind, Parameters, PlacedUnit};
 
 // ---- The ring
 
@@ -362,6 +362,7 @@ fn array_count(kind: Kind) -> usize {
         Kind::Public => 1,
         Kind::Private => 4,
         Kind::Sealed => 1,
+        Kind::Bundle => 0,
     }
 }
 
@@ -370,7 +371,16 @@ pub fn file_numbers(kind: Kind, n: u32) -> usize {
 }
 
 pub fn file_bytes(kind: Kind, n: u32) -> usize {
-    16 + 4 * n as usize * array_count(kind)
+    match kind {
+        Kind::Bundle => bundle_bytes(n, 0),
+        _ => 16 + 4 * n as usize * array_count(kind),
+    }
+}
+
+/// Refusal 7; a bundle is not made of arrays alone, so no length of its arrays is right.
+fn check_lengths(kind: Kind, n: u32, bytes: usize, numbers: usize) -> Result<(), u32> {
+    let right = (bytes, numbers) == (file_bytes(kind, n), file_numbers(kind, n));
+    refuse(7, kind == Kind::Bundle || !right)
 }
 
 fn check_arrays(kind: Kind, p: Parameters, numbers: &[i32]) -> Result<(), u32> {
@@ -384,6 +394,7 @@ fn check_arrays(kind: Kind, p: Parameters, numbers: &[i32]) -> Result<(), u32> {
             refuse(12, !reduced_q(arrays[2], q))?;
             refuse(9, !units_of_sum_zero(arrays[3], p.s))
         }
+        Kind::Bundle => unreachable!("refusal 7 comes first"),
     }
 }
 
@@ -407,34 +418,129 @@ pub fn read_head(kind: Kind, file: &[u8]) -> Result<Parameters, u32> {
 
 pub fn read(kind: Kind, file: &[u8], room: usize) -> Result<Vec<i32>, u32> {
     let p = read_head(kind, file)?;
-    refuse(
-        7,
-        file.len() != file_bytes(kind, p.n) || room != file_numbers(kind, p.n),
-    )?;
-    let pairs = file[16..].chunks(2);
-    let numbers: Vec<i32> = pairs
-        .map(|pair| i16::from_be_bytes([pair[0], pair[1]]).into())
-        .collect();
+    check_lengths(kind, p.n, file.len(), room)?;
+    let numbers = signed_numbers(&file[16..]);
     check_arrays(kind, p, &numbers)?;
     Ok(numbers)
 }
 
+pub fn signed_numbers(stored: &[u8]) -> Vec<i32> {
+    let pairs = stored.chunks(2);
+    pairs
+        .map(|pair| i16::from_be_bytes([pair[0], pair[1]]).into())
+        .collect()
+}
+
+/// The first 16 bytes of a file.
+fn head(kind: Kind, p: Parameters) -> Vec<u8> {
+    let mut head = b"EIZ\x00\x01".to_vec();
+    head.push(kind as u8);
+    for number in [p.n as i32, p.c, p.d, p.s as i32, p.t as i32] {
+        head.extend((number as i16).to_be_bytes());
+    }
+    head
+}
+
 pub fn write(kind: Kind, p: Parameters, numbers: &[i32], room: usize) -> Result<Vec<u8>, u32> {
     check_parameters(p)?;
-    refuse(
-        7,
-        room != file_bytes(kind, p.n) || numbers.len() != file_numbers(kind, p.n),
-    )?;
+    check_lengths(kind, p.n, room, numbers.len())?;
     check_arrays(kind, p, numbers)?;
-    let mut file = b"EIZ\x00\x01".to_vec();
-    file.push(kind as u8);
-    for number in [p.n as i32, p.c, p.d, p.s as i32, p.t as i32]
-        .iter()
-        .chain(numbers)
-    {
-        file.extend((*number as i16).to_be_bytes());
+    let mut file = head(kind, p);
+    for &number in numbers {
+        file.extend((number as i16).to_be_bytes());
     }
     Ok(file)
+}
+
+// ---- Bundles, document 02: "the usual 16-byte head, a 16-bit count, then that many entries: a
+// ---- 16-bit stop number and a sealed array of 4N bytes"
+
+pub fn bundle_bytes(n: u32, count: usize) -> usize {
+    16 + 2 + (2 + 4 * n as usize) * count
+}
+
+/// "A file is at most 65,536 bytes, else refusal 7."
+fn check_bundle_length(n: u32, count: usize, bytes: usize) -> Result<(), u32> {
+    refuse(7, bytes != bundle_bytes(n, count) || bytes > 65_536)
+}
+
+/// "25 if a stop number occurs twice, after 7 and before the entries' own 12"
+fn check_entries(p: Parameters, stops: &[u32], numbers: &[i32]) -> Result<(), u32> {
+    let occurs_again = |(k, stop): (usize, &u32)| stops[k + 1..].contains(stop);
+    refuse(25, stops.iter().enumerate().any(occurs_again))?;
+    refuse(12, !reduced_q(numbers, modulus(p)))
+}
+
+pub fn read_bundle_head(file: &[u8]) -> Result<BundleHead, u32> {
+    let parameters = read_head(Kind::Bundle, file)?;
+    refuse(7, file.len() < 18)?;
+    let count = usize::from(u16::from_be_bytes([file[16], file[17]]));
+    check_bundle_length(parameters.n, count, file.len())?;
+    Ok(BundleHead { parameters, count })
+}
+
+/// The stops and the arrays' bytes of a bundle whose head is right.
+pub fn entries(file: &[u8], n: u32) -> Vec<(u32, Vec<u8>)> {
+    let entries = file[18..].chunks(2 + 4 * n as usize);
+    entries
+        .map(|entry| {
+            let stop = u16::from_be_bytes([entry[0], entry[1]]);
+            (stop.into(), entry[2..].to_vec())
+        })
+        .collect()
+}
+
+/// The stops and the numbers; `rooms` are those of both, where they are lent.
+pub fn read_bundle(
+    file: &[u8],
+    rooms: Option<(usize, usize)>,
+) -> Result<(Vec<u32>, Vec<i32>), u32> {
+    let BundleHead { parameters, count } = read_bundle_head(file)?;
+    let n = parameters.n;
+    let right = (count, 2 * n as usize * count);
+    refuse(7, rooms.is_some_and(|rooms| rooms != right))?;
+    let entries = entries(file, n);
+    let stops: Vec<u32> = entries.iter().map(|entry| entry.0).collect();
+    let arrays = entries.iter().map(|entry| signed_numbers(&entry.1));
+    let numbers = arrays.collect::<Vec<Vec<i32>>>().concat();
+    check_entries(parameters, &stops, &numbers)?;
+    Ok((stops, numbers))
+}
+
+pub fn write_bundle(
+    p: Parameters,
+    stops: &[u16],
+    numbers: &[i32],
+    room: usize,
+) -> Result<Vec<u8>, u32> {
+    let array = 2 * p.n as usize;
+    check_parameters(p)?;
+    refuse(7, numbers.len() != array * stops.len())?;
+    check_bundle_length(p.n, stops.len(), room)?;
+    let wide: Vec<u32> = stops.iter().map(|&stop| stop.into()).collect();
+    check_entries(p, &wide, numbers)?;
+    let mut file = head(Kind::Bundle, p);
+    file.extend((stops.len() as u16).to_be_bytes());
+    for (stop, numbers) in stops.iter().zip(numbers.chunks(array)) {
+        file.extend(stop.to_be_bytes());
+        for &number in numbers {
+            file.extend((number as i16).to_be_bytes());
+        }
+    }
+    Ok(file)
+}
+
+/// "Opening an entry gives what opening that array alone gives."
+pub fn open_entry(
+    p: Parameters,
+    f: &[i32],
+    f2: &[i32],
+    part: &[u8],
+    room: usize,
+) -> Result<Vec<u8>, u32> {
+    check_parameters(p)?;
+    refuse(7, part.len() != 4 * p.n as usize)?;
+    open(p, f, f2, &signed_numbers(part), room)
 }
 
 // ---- The opening program

@@ -1,6 +1,7 @@
-//! Document 01's own lines, with the results as it states them; the line that is sealed, from places too.
+//! Document 01's own lines, with the results as it states them; the line that is sealed, from places
+//! and in a bundle too.
 
-use etru::{Kind, Pair, Parameters, PlacedUnit};
+use etru::{Bundle, BundleHead, Kind, Pair, Parameters, PlacedUnit};
 
 use crate::calls::numbered;
 use crate::definitions::{multiply, norm, UNITS};
@@ -33,6 +34,13 @@ pub const SEALED: [i32; 6] = [7, 0, -1, 5, -6, -6];
 pub const SEALED_FILE: [u8; 28] = [
     0x45, 0x49, 0x5A, 0x00, 0x01, 0x03, 0x00, 0x03, 0x00, 0x0F, 0x00, 0x00, 0x00, 0x03, 0x00, 0x01,
     0x00, 0x07, 0x00, 0x00, 0xFF, 0xFF, 0x00, 0x05, 0xFF, 0xFA, 0xFF, 0xFA,
+];
+
+/// The sealed array in a bundle, for stops 65,535 and 7.
+pub const BUNDLE_FILE: [u8; 46] = [
+    0x45, 0x49, 0x5A, 0x00, 0x01, 0x04, 0x00, 0x03, 0x00, 0x0F, 0x00, 0x00, 0x00, 0x03, 0x00, 0x01,
+    0x00, 0x02, 0xFF, 0xFF, 0x00, 0x07, 0x00, 0x00, 0xFF, 0xFF, 0x00, 0x05, 0xFF, 0xFA, 0xFF, 0xFA,
+    0x00, 0x07, 0x00, 0x07, 0x00, 0x00, 0xFF, 0xFF, 0x00, 0x05, 0xFF, 0xFA, 0xFF, 0xFA,
 ];
 
 /// The 64-byte file of the key with f = 1.
@@ -186,6 +194,47 @@ fn the_sealed_file() {
     let mut e = [77; 6];
     assert_eq!(etru::read(Kind::Sealed, &file, &mut e), Ok(()));
     assert_eq!(e, SEALED);
+}
+
+/// "a 16-bit count, then that many entries: a 16-bit stop number and a sealed array of 4N bytes"
+#[test]
+fn the_bundle_of_the_sealed_array() {
+    let numbers = [SEALED, SEALED].concat();
+    let mut file = [77; 46];
+    let written = etru::write_bundle(SMALL, &[65_535, 7], &numbers, &mut file);
+    assert_eq!(written, Ok(()));
+    assert_eq!(file, BUNDLE_FILE);
+    let head = BundleHead {
+        parameters: SMALL,
+        count: 2,
+    };
+    assert_eq!(etru::read_bundle_head(&file), Ok(head));
+    assert_eq!(etru::read_head(Kind::Bundle, &file), Ok(SMALL));
+    let (mut stops, mut read) = ([77; 2], [77; 12]);
+    assert_eq!(etru::read_bundle(&file, &mut stops, &mut read), Ok(()));
+    assert_eq!((stops, &read[..]), ([65_535, 7], &numbers[..]));
+
+    let bundle = Bundle::new(&file).expect("it is a bundle");
+    assert_eq!((bundle.parameters(), bundle.len()), (SMALL, 2));
+    for (entry, stop) in bundle.entries().zip([65_535, 7]) {
+        assert_eq!(entry.stop, stop);
+        assert_eq!(entry.part, &SEALED_FILE[16..]);
+        let mut message = [77];
+        let opened = etru::open_entry(SMALL, &ONE, &ONE, entry.part, &mut message);
+        assert_eq!((opened, message), (Ok(()), [0xB0]));
+    }
+}
+
+#[test]
+fn a_bundle_of_no_entries() {
+    let mut file = [77; 18];
+    assert_eq!(etru::write_bundle(SMALL, &[], &[], &mut file), Ok(()));
+    assert_eq!(file[..16], BUNDLE_FILE[..16]);
+    assert_eq!(file[16..], [0, 0]);
+    let bundle = Bundle::new(&file).expect("a count of 0 is allowed");
+    assert!(bundle.is_empty());
+    assert_eq!(bundle.entries().next(), None);
+    assert_eq!(etru::read_bundle(&file, &mut [], &mut []), Ok(()));
 }
 
 #[test]

@@ -109,6 +109,18 @@ impl Rng {
         drawn
     }
 
+    /// So many stop numbers, no one twice.
+    pub fn stops(&mut self, count: usize) -> Vec<u16> {
+        let mut drawn = Vec::new();
+        while drawn.len() < count {
+            let stop = self.next() as u16;
+            if !drawn.contains(&stop) {
+                drawn.push(stop);
+            }
+        }
+        drawn
+    }
+
     pub fn reduced_q(&mut self, p: Parameters) -> Vec<i32> {
         let q = modulus(p);
         let value = |_| remainder_q((self.within(-9999, 9999), self.within(-9999, 9999)), q);

@@ -4,7 +4,7 @@ use etru::{Kind, Parameters};
 
 use crate::definitions;
 
-const KINDS: &[Kind] = &[Kind::Public, Kind::Private, Kind::Sealed];
+const KINDS: &[Kind] = &[Kind::Public, Kind::Private, Kind::Sealed, Kind::Bundle];
 
 #[test]
 fn limits_of_parameters() {
@@ -46,6 +46,31 @@ fn lengths_of_arrays_messages_and_files() {
     }
     assert_eq!(etru::file_bytes(Kind::Private, 3), 64);
     assert_eq!(etru::file_bytes(Kind::Sealed, 3), 28);
+}
+
+#[test]
+fn lengths_of_bundles() {
+    assert_eq!(etru::MAX_BUNDLE_BYTES, 65_536);
+    for n in (0..=1100).chain([65535, u32::MAX]) {
+        assert_eq!(etru::part_bytes(n), 4 * n as usize);
+        assert_eq!(etru::entry_bytes(n), 2 + 4 * n as usize);
+        for count in [0, 1, 2, 4679, 65535] {
+            assert_eq!(etru::bundle_numbers(n, count), 2 * n as usize * count);
+            assert_eq!(
+                etru::bundle_bytes(n, count),
+                definitions::bundle_bytes(n, count)
+            );
+        }
+        let most = etru::max_bundle_entries(n);
+        assert!(etru::bundle_bytes(n, most) <= 65_536);
+        assert!(etru::bundle_bytes(n, most + 1) > 65_536);
+    }
+    for (n, most) in [(3, 4679), (8, 1927), (251, 65), (1021, 16), (1024, 15)] {
+        assert_eq!(etru::max_bundle_entries(n), most);
+    }
+    assert_eq!(etru::bundle_bytes(3, 0), 18);
+    assert_eq!(etru::bundle_bytes(8, 1927), 65_536);
+    assert_eq!(etru::bundle_bytes(u32::MAX, usize::MAX), usize::MAX);
 }
 
 #[test]

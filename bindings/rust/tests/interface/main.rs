@@ -1,6 +1,7 @@
 //! The crate against the documents: document 01's own lines, each refusal, and random keys, values
 //! and files, held against the definitions in plain Rust.
 
+mod bundles;
 mod calls;
 mod definitions;
 mod document_01;

@@ -1,10 +1,11 @@
 //! Random keys, each with several messages: key check, sealing from an array and from places,
-//! opening, packing, the three files and the program's line.
+//! opening, packing, the files of a key and of each message, the program's line, and the bundle of
+//! all messages.
 
-use etru::{Kind, Parameters};
+use etru::{Bundle, Kind, Parameters};
 
 use crate::calls;
-use crate::definitions::{file_bytes, file_numbers, message_bytes};
+use crate::definitions::{bundle_bytes, file_bytes, file_numbers, message_bytes};
 use crate::drawing::{without_spare_bits, Rng};
 use crate::keys::{Key, Modulus};
 
@@ -18,34 +19,55 @@ fn one_key(rng: &mut Rng, key: &Key) {
 
     let zeros = vec![0; message_bytes(n)];
     let ones = without_spare_bits(n, vec![255; message_bytes(n)]);
-    for message in [zeros, ones, rng.message(n), rng.message(n)] {
-        let m = calls::pack(rng, n, &message, length).expect("it is a message");
+    let messages = [zeros, ones, rng.message(n), rng.message(n)];
+    let mut numbers = Vec::new();
+    for message in &messages {
+        let m = calls::pack(rng, n, message, length).expect("it is a message");
         assert_eq!(
             calls::unpack(rng, n, &m, message.len()).as_ref(),
-            Ok(&message)
+            Ok(message)
         );
 
         let phi = rng.units_of_sum_zero(n, p.s);
-        let e = calls::seal(rng, p, &h, &phi, &message, length).expect("all is in its set");
+        let e = calls::seal(rng, p, &h, &phi, message, length).expect("all is in its set");
         let places = rng.places(&phi);
-        let from_places = calls::seal_places(rng, p, &h, &places, &message, length);
+        let from_places = calls::seal_places(rng, p, &h, &places, message, length);
         assert_eq!(from_places.as_ref(), Ok(&e));
         let spread = calls::spread_places(rng, p, &places, length);
         assert_eq!(spread.as_ref(), Ok(&phi));
         let opened = calls::open(rng, p, &key.f, &key.f2, &e, message.len());
-        assert_eq!(opened.as_ref(), Ok(&message));
+        assert_eq!(opened.as_ref(), Ok(message));
 
         let sealed = file(rng, Kind::Sealed, p, &e);
         let line = calls::open_files(rng, &[&private[..], &sealed].concat());
         let digits: String = message.iter().map(|byte| format!("{byte:02X}")).collect();
         assert_eq!(line, format!("0 {digits}\n").into_bytes());
+        numbers.extend(e);
     }
+    let stops = rng.stops(messages.len());
+    bundle(rng, key, &stops, &numbers, &messages);
 
     // any operands, and opening what was never sealed with an F2 that is no inverse
     let (x, y) = (rng.reduced_q(p), rng.reduced_q(p));
     calls::convolve(rng, p, &x, &y, length).expect("both are reduced");
     let f2 = rng.reduced_2(n);
     calls::open(rng, p, &key.f, &f2, &x, message_bytes(n)).expect("all is in its set");
+}
+
+/// Writes a bundle of sealed messages, reads it back, and opens its entries.
+fn bundle(rng: &mut Rng, key: &Key, stops: &[u16], numbers: &[i32], messages: &[Vec<u8>]) {
+    let p = key.p;
+    let length = bundle_bytes(p.n, stops.len());
+    let file = calls::write_bundle(rng, p, stops, numbers, length).expect("all is in its set");
+    let read = calls::read_bundle(rng, &file, (stops.len(), numbers.len()));
+    let wide = stops.iter().map(|&stop| stop.into()).collect();
+    assert_eq!(read, Ok((wide, numbers.to_vec())));
+    assert_eq!(calls::walk(&file), Ok(stops.len()));
+    let bundle = Bundle::new(&file).expect("it was written");
+    for (entry, message) in bundle.entries().zip(messages) {
+        let opened = calls::open_entry(rng, p, &key.f, &key.f2, entry.part, message.len());
+        assert_eq!(opened.as_ref(), Ok(message));
+    }
 }
 
 /// Writes a file and reads it back.

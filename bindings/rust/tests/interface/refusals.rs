@@ -2,9 +2,11 @@
 
 use std::fmt::Debug;
 
-use etru::{Error, Kind, Parameters, PlacedUnit, Refusal};
+use etru::{Bundle, Error, Kind, Parameters, PlacedUnit, Refusal};
 
-use crate::document_01::{private_file, ONE, PLACES, SEALED, SEALED_FILE, SMALL, TRIPLE};
+use crate::document_01::{
+    private_file, BUNDLE_FILE, ONE, PLACES, SEALED, SEALED_FILE, SMALL, TRIPLE,
+};
 
 fn is_refused<T: Debug + PartialEq>(given: Result<T, Error>, refusal: Refusal, number: u32) {
     assert_eq!(given, Err(Error::Refused(refusal)));
@@ -30,6 +32,28 @@ fn seal_and_spread_are_refused(places: &[PlacedUnit], refusal: Refusal, number: 
         number,
     );
     assert_eq!(out, [77; 6]);
+}
+
+/// Making a bundle and reading it refuse bytes alike.
+fn bundle_is_refused(file: &[u8], refusal: Refusal, number: u32) {
+    is_refused(Bundle::new(file).map(|_| ()), refusal, number);
+    let (mut stops, mut numbers) = ([77; 2], [77; 12]);
+    let read = etru::read_bundle(file, &mut stops, &mut numbers);
+    is_refused(read, refusal, number);
+    assert_eq!((stops, numbers), ([77; 2], [77; 12]));
+}
+
+/// What is refused of the head is refused with the whole bundle too.
+fn bundle_head_is_refused(file: &[u8], refusal: Refusal, number: u32) {
+    is_refused(etru::read_bundle_head(file), refusal, number);
+    bundle_is_refused(file, refusal, number);
+}
+
+/// The bundle with some bytes changed, from one place on.
+fn bundle_but(place: usize, bytes: &[u8]) -> [u8; 46] {
+    let mut file = BUNDLE_FILE;
+    file[place..place + bytes.len()].copy_from_slice(bytes);
+    file
 }
 
 fn places(places: [u32; 3], units: [u32; 3]) -> [PlacedUnit; 3] {
@@ -76,10 +100,18 @@ fn parameters_are_refused(p: Parameters, refusal: Refusal, number: u32) {
         refusal,
         number,
     );
+    is_refused(
+        etru::open_entry(p, &ONE, &ONE, &SEALED_FILE[16..], &mut message),
+        refusal,
+        number,
+    );
     assert_eq!(message, [77]);
     let mut file = [77; 28];
+    for kind in [Kind::Sealed, Kind::Bundle] {
+        is_refused(etru::write(kind, p, &SEALED, &mut file), refusal, number);
+    }
     is_refused(
-        etru::write(Kind::Sealed, p, &SEALED, &mut file),
+        etru::write_bundle(p, &[1], &SEALED, &mut file),
         refusal,
         number,
     );
@@ -296,6 +328,66 @@ fn refusal_07_wrong_length() {
     }
 }
 
+/// Refusal 7 of bundles and of their parts.
+#[test]
+fn wrong_lengths_of_bundles() {
+    let refusal = Refusal::WrongLength;
+    for length in [16, 17, 18, 32, 45] {
+        bundle_head_is_refused(&BUNDLE_FILE[..length], refusal, 7);
+    }
+    bundle_head_is_refused(&[&BUNDLE_FILE[..], &[0]].concat(), refusal, 7);
+    for count in [[0, 0], [0, 1], [0, 3], [2, 0], [255, 255]] {
+        bundle_head_is_refused(&bundle_but(16, &count), refusal, 7);
+    }
+    for (stop_room, room) in [(1, 12), (3, 12), (2, 11), (2, 13), (0, 0), (12, 2)] {
+        let (mut stops, mut numbers) = (vec![77; stop_room], vec![77; room]);
+        let read = etru::read_bundle(&BUNDLE_FILE, &mut stops, &mut numbers);
+        is_refused(read, refusal, 7);
+        assert_eq!((stops, numbers), (vec![77; stop_room], vec![77; room]));
+    }
+    for (stops, numbers, bytes) in [
+        (1, 12, 46),
+        (3, 12, 46),
+        (2, 11, 46),
+        (2, 12, 45),
+        (2, 12, 60),
+    ] {
+        let mut file = vec![77; bytes];
+        let (stops, numbers) = (&[1, 2, 3][..stops], &[0; 18][..numbers]);
+        let written = etru::write_bundle(SMALL, stops, numbers, &mut file);
+        is_refused(written, refusal, 7);
+        assert_eq!(file, vec![77; bytes]);
+    }
+    let mut message = [77];
+    for length in [0, 11, 13, 24] {
+        let part = &[0; 24][..length];
+        let given = etru::open_entry(SMALL, &ONE, &ONE, part, &mut message);
+        is_refused(given, refusal, 7);
+    }
+    let part = &SEALED_FILE[16..];
+    for [f, f2] in [[&ONE[..5], &ONE], [&ONE, &ONE[..5]]] {
+        let given = etru::open_entry(SMALL, f, f2, part, &mut message);
+        is_refused(given, refusal, 7);
+    }
+    assert_eq!(message, [77]);
+    let given = etru::open_entry(SMALL, &ONE, &ONE, part, &mut []);
+    is_refused(given, refusal, 7);
+
+    // no length of arrays is a bundle's
+    for room in [0, 6, 12, 15] {
+        let mut numbers = vec![77; room];
+        for length in [16, 18, 46] {
+            let read = etru::read(Kind::Bundle, &BUNDLE_FILE[..length], &mut numbers);
+            is_refused(read, refusal, 7);
+            let mut file = vec![77; length];
+            let written = etru::write(Kind::Bundle, SMALL, &numbers, &mut file);
+            is_refused(written, refusal, 7);
+            assert_eq!(file, vec![77; length]);
+        }
+        assert_eq!(numbers, vec![77; room]);
+    }
+}
+
 #[test]
 fn refusal_08_f_not_in_its_set() {
     let refusal = Refusal::FNotInItsSet;
@@ -418,6 +510,22 @@ fn refusal_12_not_reduced_modulo_q() {
         is_refused(etru::write(Kind::Public, SMALL, &x, &mut file), refusal, 12);
         is_refused(etru::write(Kind::Sealed, SMALL, &x, &mut file), refusal, 12);
         assert_eq!(file, [77; 28]);
+        for arrays in [[x, ONE], [ONE, x]] {
+            let mut file = [77; 46];
+            let written = etru::write_bundle(SMALL, &[1, 2], &arrays.concat(), &mut file);
+            is_refused(written, refusal, 12);
+            assert_eq!(file, [77; 46]);
+        }
+    }
+    // 8 is not reduced modulo 15
+    let mut part = [0; 12];
+    part[11] = 8;
+    let mut message = [77];
+    let given = etru::open_entry(SMALL, &ONE, &ONE, &part, &mut message);
+    is_refused(given, refusal, 12);
+    assert_eq!(message, [77]);
+    for place in [20, 34] {
+        bundle_is_refused(&bundle_but(place, &part), refusal, 12);
     }
 }
 
@@ -476,6 +584,7 @@ fn refusal_16_head_too_short() {
             Refusal::HeadTooShort,
             16,
         );
+        bundle_head_is_refused(&BUNDLE_FILE[..length], Refusal::HeadTooShort, 16);
     }
 }
 
@@ -491,6 +600,7 @@ fn refusal_17_mark_not_eiz() {
     for place in 0..3 {
         let file = sealed_file_but(place, b'e');
         file_is_refused(Kind::Sealed, &file, Refusal::MarkNotEiz, 17);
+        bundle_head_is_refused(&bundle_but(place, b"e"), Refusal::MarkNotEiz, 17);
     }
 }
 
@@ -499,18 +609,25 @@ fn refusal_18_version_not_one() {
     for (place, byte) in [(3, 1), (4, 0), (4, 2)] {
         let file = sealed_file_but(place, byte);
         file_is_refused(Kind::Sealed, &file, Refusal::VersionNotOne, 18);
+        bundle_head_is_refused(&bundle_but(place, &[byte]), Refusal::VersionNotOne, 18);
     }
 }
 
 #[test]
 fn refusal_19_kind_not_wanted() {
-    for kind in [Kind::Public, Kind::Private] {
+    for kind in [Kind::Public, Kind::Private, Kind::Bundle] {
         file_is_refused(kind, &SEALED_FILE, Refusal::KindNotWanted, 19);
     }
+    for kind in [Kind::Public, Kind::Private, Kind::Sealed] {
+        file_is_refused(kind, &BUNDLE_FILE, Refusal::KindNotWanted, 19);
+    }
     file_is_refused(Kind::Sealed, &private_file(), Refusal::KindNotWanted, 19);
-    for byte in [0, 4, 255] {
+    for byte in [0, 4, 5, 255] {
         let file = sealed_file_but(5, byte);
         file_is_refused(Kind::Sealed, &file, Refusal::KindNotWanted, 19);
+    }
+    for byte in [0, 1, 2, 3, 5, 255] {
+        bundle_head_is_refused(&bundle_but(5, &[byte]), Refusal::KindNotWanted, 19);
     }
 }
 
@@ -570,6 +687,52 @@ fn refusal_24_place_occurs_twice() {
             seal_and_spread_are_refused(&places(at, units), refusal, 24);
         }
     }
+}
+
+#[test]
+fn refusal_25_stop_occurs_twice() {
+    let refusal = Refusal::StopOccursTwice;
+    bundle_is_refused(&bundle_but(18, &[0, 7]), refusal, 25);
+    bundle_is_refused(&bundle_but(32, &[255, 255]), refusal, 25);
+    for stops in [
+        [1, 1, 2],
+        [1, 2, 1],
+        [2, 1, 1],
+        [0, 5, 0],
+        [65_535, 5, 65_535],
+    ] {
+        let mut file = [77; 60];
+        let numbers = [SEALED; 3].concat();
+        let written = etru::write_bundle(SMALL, &stops, &numbers, &mut file);
+        is_refused(written, refusal, 25);
+        assert_eq!(file, [77; 60]);
+    }
+}
+
+/// Document 02: 25 stands "after 7 and before the entries' own 12".
+#[test]
+fn the_first_refusal_of_bundles_is_given() {
+    // a stop that occurs twice, and a number that is not reduced in the first or the last entry
+    for place in [20, 44] {
+        let mut file = bundle_but(place, &[0x7F, 0xFF]);
+        bundle_is_refused(&file, Refusal::NotReducedModuloQ, 12);
+        file[18..20].copy_from_slice(&[0, 7]);
+        bundle_is_refused(&file, Refusal::StopOccursTwice, 25);
+        bundle_head_is_refused(&file[..45], Refusal::WrongLength, 7);
+        // t = 2
+        file[15] = 2;
+        bundle_head_is_refused(&file[..45], Refusal::BoundNotBelowNorm, 6);
+    }
+    let mut file = [77; 46];
+    let mut check = |stops: &[u16], refusal: Refusal, number| {
+        let numbers = [SEALED, [9; 6]].concat();
+        let written = etru::write_bundle(SMALL, stops, &numbers, &mut file);
+        is_refused(written, refusal, number);
+        assert_eq!(file, [77; 46]);
+    };
+    check(&[1], Refusal::WrongLength, 7);
+    check(&[1, 1], Refusal::StopOccursTwice, 25);
+    check(&[1, 2], Refusal::NotReducedModuloQ, 12);
 }
 
 /// Document 02: 23 and 24 stand "both after h's check and before 10, with 23 first over the whole

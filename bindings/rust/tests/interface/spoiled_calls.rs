@@ -6,7 +6,7 @@ use std::collections::BTreeSet;
 use etru::{Kind, Parameters, PlacedUnit};
 
 use crate::calls;
-use crate::definitions::{file_bytes, file_numbers, message_bytes};
+use crate::definitions::{bundle_bytes, file_bytes, file_numbers, message_bytes};
 use crate::drawing::Rng;
 use crate::keys::Key;
 
@@ -23,6 +23,9 @@ struct Arguments {
     m: Vec<i32>,
     message: Vec<u8>,
     e: Vec<i32>,
+    /// the entries of a bundle
+    stops: Vec<u16>,
+    arrays: Vec<Vec<i32>>,
     /// the lengths of outputs: an array, a message
     room: usize,
     message_room: usize,
@@ -44,6 +47,8 @@ impl Arguments {
             m: rng.reduced_2(n),
             message: rng.message(n),
             e: rng.reduced_q(p),
+            stops: rng.stops(3),
+            arrays: (0..3).map(|_| rng.reduced_q(p)).collect(),
             room: 2 * n as usize,
             message_room: message_bytes(n),
         }
@@ -75,6 +80,14 @@ impl Arguments {
             if rng.once_in(6) {
                 spoil_array(rng, array);
             }
+        }
+        for array in &mut self.arrays {
+            if rng.once_in(12) {
+                spoil_array(rng, array);
+            }
+        }
+        if rng.once_in(4) {
+            spoil_stops(rng, &mut self.stops);
         }
         for _ in 0..rng.index(3) {
             spoil_places(rng, p.n, &mut self.places);
@@ -110,6 +123,16 @@ fn spoil_array(rng: &mut Rng, array: &mut Vec<i32>) {
         1 => array.push(0),
         2 => array[place] = rng.one_of(&[i32::MAX, i32::MIN, 65537, -65535, 4096]),
         _ => array[place] = rng.one_of(&[-2, -1, 0, 1, 2]),
+    }
+}
+
+fn spoil_stops(rng: &mut Rng, stops: &mut Vec<u16>) {
+    let (i, j) = (rng.index(stops.len()), rng.index(stops.len()));
+    match rng.index(6) {
+        0 => stops.truncate(i),
+        1 => stops.push(stops[i]),
+        // twice, unless it is the same entry
+        _ => stops[i] = stops[j],
     }
 }
 
@@ -259,13 +282,15 @@ fn write_sealed() {
 /// The bytes of a file with these parts, right or wrong.
 fn file_of(kind: u8, p: Parameters, numbers: &[i32]) -> Vec<u8> {
     let mut file = vec![b'E', b'I', b'Z', 0, 1, kind];
-    for number in [p.n as i32, p.c, p.d, p.s as i32, p.t as i32]
-        .iter()
-        .chain(numbers)
-    {
-        file.extend((*number as i16).to_be_bytes());
-    }
+    file.extend(stored(&[p.n as i32, p.c, p.d, p.s as i32, p.t as i32]));
+    file.extend(stored(numbers));
     file
+}
+
+/// The last 16 bits of each number.
+fn stored(numbers: &[i32]) -> impl Iterator<Item = u8> + '_ {
+    let halves = numbers.iter().map(|&number| number as i16);
+    halves.flat_map(i16::to_be_bytes)
 }
 
 /// A byte of the mark, the version or the kind is changed now and then, or the end is moved.
@@ -313,6 +338,49 @@ fn read_private() {
 fn read_sealed() {
     run(32, (0..=7).chain([12]).chain(16..=19), |rng, a| {
         read(rng, Kind::Sealed, a.p, &a.e)
+    });
+}
+
+#[test]
+fn write_bundle() {
+    run(36, (0..=7).chain([12, 25]), |rng, a| {
+        let room = about(rng, bundle_bytes(a.p.n.min(Parameters::MAX_N), 3));
+        calls::write_bundle(rng, a.p, &a.stops, &a.arrays.concat(), room)
+    });
+}
+
+/// The bytes of a bundle with these parts, right or wrong.
+fn bundle_of(p: Parameters, stops: &[u16], arrays: &[Vec<i32>]) -> Vec<u8> {
+    let mut file = file_of(4, p, &[]);
+    file.extend((stops.len() as u16).to_be_bytes());
+    for (stop, array) in stops.iter().zip(arrays) {
+        file.extend(stop.to_be_bytes());
+        file.extend(stored(array));
+    }
+    file
+}
+
+#[test]
+fn read_bundle() {
+    let numbers = (0..=7).chain([12, 25]).chain(16..=19);
+    run(37, numbers, |rng, a| {
+        let mut file = bundle_of(a.p, &a.stops, &a.arrays);
+        damage(rng, &mut file);
+        let (stops, numbers) = match calls::read_bundle_head(&file) {
+            Ok(head) => (head.count, 2 * head.parameters.n as usize * head.count),
+            Err(_) => (3, 18),
+        };
+        let _ = calls::walk(&file);
+        let rooms = (about(rng, stops), about(rng, numbers));
+        calls::read_bundle(rng, &file, rooms)
+    });
+}
+
+#[test]
+fn open_entry() {
+    run(38, (0..=8).chain([11, 12]), |rng, a| {
+        let part: Vec<u8> = stored(&a.e).collect();
+        calls::open_entry(rng, a.p, &a.f, &a.f2, &part, a.message_room)
     });
 }
 
