@@ -167,17 +167,20 @@ def check_kinds(report):
     numbers = [f"kind {number}" for _, number in kinds]
     report.check(kinds, f"{KINDS}: no line like 'pub const PUBLIC: u32 = 1;' is left to take the kinds from")
 
+    # a kind that is not made of arrays alone has a name there, such as bundleKind
     place = "crates/heads/specs/Kinds.antt"
     definition = between(r".*\bpub arraysOf :", "$", text(place))
-    found = ["kind " + (first or second) for first, second in all_of(r"\beqb kind (\d+)|^arraysOf (\d+) =", definition)]
-    report.same_names(place, KINDS, numbers, found, lambda name: f"the arrays of {name} in `arraysOf`")
+    found = [first or second for first, second in all_of(r"\beqb kind (\d+)|^arraysOf (\d+) =", definition)]
+    found = [f"kind {number}" for number in found + all_of(r"^\w+Kind = (\d+)$", text(place))]
+    report.same_names(place, KINDS, numbers, found, lambda name: f"the arrays of {name} in `arraysOf`, or its name")
 
     place = "include/etru.h"
     header = text(place)
     found = numbered(r"^ *ETRU_(\w+)_FILE = (\d+)", between(r"enum etru_file_kind \{", "}", header))
     report.same(place, KINDS, kinds, found, lambda name, number: f"'ETRU_{name}_FILE = {number}' in etru_file_kind")
     for what in ("NUMBERS", "BYTES"):
-        found = all_of(rf"^#define ETRU_(\w+)_FILE_{what}\(n\)", header)
+        # the lengths of a bundle depend on the count of its entries too
+        found = all_of(rf"^#define ETRU_(\w+)_FILE_{what}\(n(?:, count)?\)", header)
         report.same_names(place, KINDS, names, found, lambda name: f"the macro ETRU_{name}_FILE_{what}(n)")
 
     variants = [(name.title().replace("_", ""), number) for name, number in kinds]
@@ -199,10 +202,11 @@ def check_kinds(report):
 
 # ---- Types of what is lent
 
-IN_C = {"u8": "uint8_t", "u32": "uint32_t", "i32": "int32_t", "i64": "int64_t", "usize": "size_t"}
+IN_C = {"u8": "uint8_t", "u16": "uint16_t", "u32": "uint32_t", "i32": "int32_t", "i64": "int64_t", "usize": "size_t"}
 IN_C["PlacedUnit"] = "struct etru_placed_unit"
 IN_PYTHON = {
     "u8": ctypes.c_uint8,
+    "u16": ctypes.c_uint16,
     "u32": ctypes.c_uint32,
     "i32": ctypes.c_int32,
     "i64": ctypes.c_int64,
@@ -306,6 +310,11 @@ def check_calls(report):
         short = name[len("etru_") :]
         miss = f"{place}: {name} is not compared: call library.{short}, or list it in `CALLS`"
         report.check(re.search(rf'\blibrary\.{short}\(|"{short}"', compared), miss)
+
+    for comparison in files(place):
+        for runner in (".ci/run", "README.md"):
+            miss = f"{runner}: {comparison} is not run: write 'python3 {comparison}'"
+            report.check(f"python3 {comparison}" in text(runner), miss)
 
     place = "docs/PROVED.md"
     said = re.findall(r"`(etru_\w+)`", text(place))
