@@ -1,6 +1,6 @@
-"""The benchmark's tables and plot, from the records of speed.c and libntru.c.
+"""The benchmark's tables and plot, from the records of speed.c, libntru.c and bundles.c.
 
-Usage: report.py --machine TEXT --table N... -- DATA
+Usage: report.py --machine TEXT --table N... --bundles N... -- DATA
 
 Prints the tables, puts them between the marks of docs/PERFORMANCE.md, and writes docs/performance.svg.
 """
@@ -72,6 +72,17 @@ def convolution(times, sizes):
     return table(["N", "etru_convolve µs", "direct sum in C µs", "ours / C"], rows)
 
 
+def full_bundles(times, sizes):
+    head = ["N", "entries", "making µs", "walking µs", "opening all µs", "opening, each µs"]
+    rows = []
+    for n in sizes:
+        count, making, walking, opening = (
+            times[what, "bundle"][n] for what in ("entries", "making", "walking", "opening")
+        )
+        rows.append([f"{n:,}", f"{count:,.0f}", *map(microseconds, (making, walking, opening, opening / count))])
+    return table(head, rows)
+
+
 def libntru_note(times, sizes):
     libntru = times.get(("product", LIBNTRU[0]))
     if libntru is None:
@@ -81,10 +92,11 @@ def libntru_note(times, sizes):
     return ""
 
 
-def measured(times, sizes, machine):
+def measured(times, sizes, bundle_sizes, machine):
     return (
         f"Measured on {machine}.\n\nSealing and opening:\n\n{sealing_and_opening(times, sizes)}"
         f"{libntru_note(times, sizes)}\nConvolution:\n\n{convolution(times, sizes)}"
+        f"\nA full bundle:\n\n{full_bundles(times, bundle_sizes)}"
     )
 
 
@@ -183,11 +195,12 @@ def main():
     parser = argparse.ArgumentParser()
     parser.add_argument("--machine", required=True)
     parser.add_argument("--table", type=int, nargs="+", required=True)
+    parser.add_argument("--bundles", type=int, nargs="+", required=True)
     parser.add_argument("data", type=pathlib.Path)
     arguments = parser.parse_args()
 
     times = read_records(arguments.data)
-    report = measured(times, arguments.table, arguments.machine)
+    report = measured(times, arguments.table, arguments.bundles, arguments.machine)
     print(report, end="")
     put_between_marks(DOCS / "PERFORMANCE.md", report)
     (DOCS / "performance.svg").write_text(plot(times))

@@ -10,54 +10,15 @@
 
 #include "checks.h"
 #include "coefficients.h"
+#include "drawing.h"
 #include "etru.h"
 #include "measuring.h"
 #include "plain.h"
 #include "rotations.h"
 
-#define MAX_NUMBERS ETRU_ARRAY_NUMBERS(ETRU_MAX_N)
-#define MAX_BYTES ETRU_MESSAGE_BYTES(ETRU_MAX_N)
-
 static struct parameters parameters;
 static int32_t h[MAX_NUMBERS], phi[MAX_NUMBERS], f[MAX_NUMBERS], f2[MAX_NUMBERS], e[MAX_NUMBERS];
 static uint8_t message[MAX_BYTES];
-
-// ---- Inputs
-
-// Unit k times unit 2, which is ω, is unit k + 2, so units k, k + 2 and k + 4 have the sum zero.
-static const struct value units[6] = {{1, 0}, {1, 1}, {0, 1}, {-1, 0}, {-1, -1}, {0, -1}};
-
-static void draw_units(int32_t *x, size_t count, bool sum_zero) {
-    uint16_t places[ETRU_MAX_N];
-    uint32_t number = 0;
-    shuffle(places, (uint32_t)parameters.n);
-    memset(x, 0, MAX_NUMBERS * sizeof x[0]);
-    for (size_t k = 0; k < count; k++) {
-        number = sum_zero && k % 3 != 0 ? number + 2 : random_below(6);
-        set_coefficient(x, places[k], units[number % 6]);
-    }
-}
-
-static void draw_reduced_modulo_q(int32_t *x) {
-    for (size_t i = 0; i < parameters.n; i++) {
-        struct value any = {(int64_t)random_below(1u << 21) - (1 << 20), (int64_t)random_below(1u << 21) - (1 << 20)};
-        set_coefficient(x, i, remainder_modulo_q(any, modulus(&parameters)));
-    }
-}
-
-static void draw_message(void) {
-    memset(message, 0, sizeof message);
-    for (size_t i = 0; i < parameters.n; i++) {
-        add_message_coefficient(message, i, (struct value){random_below(2), random_below(2)});
-    }
-}
-
-static void draw_reduced_modulo_2(int32_t *x) {
-    static const struct value remainders[4] = {{0, 0}, {1, 0}, {0, 1}, {-1, -1}};
-    for (size_t i = 0; i < parameters.n; i++) {
-        set_coefficient(x, i, remainders[random_below(4)]);
-    }
-}
 
 // ---- The calls to compare
 
@@ -173,12 +134,12 @@ static void measure_calls(uint32_t n) {
         fprintf(stderr, "speed: N = %u: refusal %u\n", (unsigned)n, (unsigned)number);
         exit(1);
     }
-    draw_reduced_modulo_q(h);
-    draw_units(phi, parameters.s, true);
-    draw_message();
-    draw_units(f, parameters.t, false);
-    draw_reduced_modulo_2(f2);
-    draw_reduced_modulo_q(e);
+    draw_reduced_modulo_q(&parameters, h);
+    draw_units(&parameters, phi, parameters.s, true);
+    draw_message(&parameters, message);
+    draw_units(&parameters, f, parameters.t, false);
+    draw_reduced_modulo_2(&parameters, f2);
+    draw_reduced_modulo_q(&parameters, e);
 
     size_t array_bytes = ETRU_ARRAY_NUMBERS(n) * sizeof(int32_t);
     measure("sealing", sealing, 4, array_bytes);

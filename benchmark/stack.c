@@ -22,6 +22,15 @@ static int32_t key[8 * N], numbers[8 * N];
 static uint8_t files[ETRU_PRIVATE_FILE_BYTES(N) + ETRU_SEALED_FILE_BYTES(N)], line[ETRU_LINE_BYTES];
 static size_t line_bytes;
 
+// A full bundle: e for each stop.
+#define ENTRIES ETRU_MAX_BUNDLE_ENTRIES(N)
+#define BUNDLE ETRU_BUNDLE_FILE_BYTES(N, ENTRIES)
+static uint16_t stops[ENTRIES];
+static uint32_t read_stops[ENTRIES];
+static int32_t bundled[2 * N * ENTRIES], read_numbers[2 * N * ENTRIES];
+static uint8_t bundle[BUNDLE];
+static size_t first, part;
+
 static uint32_t check_parameters(void) { return etru_check_parameters(N, 15, 0, 3, 1); }
 static uint32_t convolve(void) { return etru_convolve(N, 15, 0, 3, 1, one, 2 * N, g, 2 * N, out, 2 * N); }
 static uint32_t check_key(void) { return etru_check_key(N, 15, 0, 3, 1, one, 2 * N, one, 2 * N, one, 2 * N, g, 2 * N, h, 2 * N); }
@@ -34,6 +43,10 @@ static uint32_t unpack(void) { return etru_unpack(N, out, 2 * N, opened, N / 4);
 static uint32_t write_private(void) { return etru_write(2, N, 15, 0, 3, 1, key, 8 * N, files, ETRU_PRIVATE_FILE_BYTES(N)); }
 static uint32_t write_sealed(void) { return etru_write(3, N, 15, 0, 3, 1, e, 2 * N, files + ETRU_PRIVATE_FILE_BYTES(N), ETRU_SEALED_FILE_BYTES(N)); }
 static uint32_t read_private(void) { return etru_read(2, files, ETRU_PRIVATE_FILE_BYTES(N), numbers, 8 * N); }
+static uint32_t write_bundle(void) { return etru_write_bundle(N, 15, 0, 3, 1, stops, ENTRIES, bundled, 2 * N * ENTRIES, bundle, BUNDLE); }
+static uint32_t read_bundle(void) { return etru_read_bundle(bundle, BUNDLE, read_stops, ENTRIES, read_numbers, 2 * N * ENTRIES); }
+static uint32_t begin_bundle(void) { return etru_begin_bundle(bundle, BUNDLE, &first); }
+static uint32_t open_entry(void) { return etru_open_entry(N, 15, 0, 3, 1, one, 2 * N, one, 2 * N, bundle + part, 4 * N, opened, N / 4); }
 static uint32_t open_files(void) { return etru_open_files(files, sizeof files, line, sizeof line, &line_bytes); }
 static uint32_t nothing(void) { return 0; }
 
@@ -51,6 +64,19 @@ static uint32_t read_head(void) {
     uint32_t n, s, t;
     int32_t c, d;
     return etru_read_head(2, files, ETRU_PRIVATE_FILE_BYTES(N), &n, &c, &d, &s, &t);
+}
+
+static uint32_t read_bundle_head(void) {
+    uint32_t n, s, t, count;
+    int32_t c, d;
+    return etru_read_bundle_head(bundle, BUNDLE, &n, &c, &d, &s, &t, &count);
+}
+
+// 0 if the first entry is met.
+static uint32_t next_entry(void) {
+    size_t at = first;
+    uint32_t stop;
+    return etru_next_entry(bundle, BUNDLE, &at, &stop, &part) != 1;
 }
 
 static uint32_t (*call)(void);
@@ -101,6 +127,12 @@ int main(void) {
                  {"etru_write, 3", write_sealed, 1},
                  {"etru_read_head", read_head, 1},
                  {"etru_read, 2", read_private, 12},
+                 {"etru_write_bundle", write_bundle, 20},
+                 {"etru_read_bundle_head", read_bundle_head, 1},
+                 {"etru_read_bundle", read_bundle, 20},
+                 {"etru_begin_bundle", begin_bundle, 20},
+                 {"etru_next_entry", next_entry, 1},
+                 {"etru_open_entry", open_entry, 28},
                  {"etru_open_files", open_files, 72}};
     for (size_t i = 0; i < sizeof message; i++) {
         message[i] = (uint8_t)(i * 37);
@@ -109,6 +141,14 @@ int main(void) {
     memcpy(key + 2 * N, one, sizeof one);
     memcpy(key + 4 * N, one, sizeof one);
     memcpy(key + 6 * N, g, sizeof g);
+    // the bundle needs the sealed array beforehand
+    if (check_key() != 0 || seal() != 0) {
+        return 1;
+    }
+    for (size_t k = 0; k < ENTRIES; k++) {
+        stops[k] = (uint16_t)k;
+        memcpy(bundled + 2 * N * k, e, sizeof e);
+    }
     size_t base = used(nothing);
     int status = 0;
     for (size_t i = 0; i < sizeof calls / sizeof calls[0]; i++) {
@@ -117,5 +157,6 @@ int main(void) {
         printf("%-21s %6zu bytes of stack%s\n", calls[i].name, bytes, within ? "" : ": above its limit");
         status |= !within;
     }
-    return status || memcmp(message, opened, sizeof message) != 0 || memcmp(key, numbers, sizeof key) != 0 || line_bytes != ETRU_LINE_BYTES;
+    return status || memcmp(message, opened, sizeof message) != 0 || memcmp(key, numbers, sizeof key) != 0 ||
+           memcmp(bundled, read_numbers, sizeof bundled) != 0 || line_bytes != ETRU_LINE_BYTES;
 }

@@ -20,8 +20,8 @@
 //   Nothing is allocated, and there is no global state: calls may run in several threads at once, as long as nobody
 //   changes what is lent to a call, or uses its outputs, before it returns. No call depends on an earlier one.
 //   Stack, at every N: etru_open_files at most 72 KiB, etru_seal_places 36 KiB, etru_open, etru_open_entry,
-//   etru_check_key and etru_spread_places 28 KiB, etru_read_bundle and etru_begin_bundle 20 KiB, etru_seal and
-//   etru_read 12 KiB, each other function 1 KiB.
+//   etru_check_key and etru_spread_places 28 KiB, etru_read_bundle, etru_begin_bundle and etru_write_bundle 20 KiB,
+//   etru_seal and etru_read 12 KiB, each other function 1 KiB.
 //   Of the C library at most memcmp, memcpy, memmove and memset are needed.
 //
 // What is not promised

@@ -16,8 +16,8 @@
 //! A call that returns an error leaves the outputs that it was lent as they came. No call panics,
 //! allocates or keeps anything, and any may be made from several threads at once. At every N
 //! [`open_files`] takes at most 72 KiB of stack, [`seal_places`] 36 KiB, [`open`], [`open_entry`],
-//! [`check_key`] and [`spread_places`] 28 KiB, [`Bundle::new`] and [`read_bundle`] 20 KiB, [`seal`]
-//! and [`read`] 12 KiB and each other call 1 KiB.
+//! [`check_key`] and [`spread_places`] 28 KiB, [`Bundle::new`], [`read_bundle`] and
+//! [`write_bundle`] 20 KiB, [`seal`] and [`read`] 12 KiB and each other call 1 KiB.
 //!
 //! # Example
 //!
