@@ -226,7 +226,7 @@ static void try_walk(size_t count) {
     fill_bundle(count);
     expect("a bundle written", write_entries(count), ETRU_OK);
     expect("a bundle begun", etru_begin_bundle(bundle, file_count, &at), ETRU_OK);
-    while (etru_next_entry(bundle, file_count, &at, &stop, &part)) {
+    while (entries <= count && etru_next_entry(bundle, file_count, &at, &stop, &part)) {
         const int next = at == file_count - (count - entries - 1) * ETRU_ENTRY_BYTES(n);
         const int sealed = memcmp(bundle + part, sealed_file + ETRU_HEAD_BYTES, ETRU_PART_BYTES(n)) == 0;
         right = right && stop == stops[entries] && next && part + ETRU_PART_BYTES(n) == at && sealed;

@@ -333,7 +333,8 @@ uint32_t etru_begin_bundle(const uint8_t *file, size_t file_count, size_t *at);
 uint32_t etru_next_entry(const uint8_t *file, size_t file_count, size_t *at, uint32_t *stop, size_t *part);
 
 // Opens an entry: gives what etru_open gives with the numbers of its sealed array. As there, check the key once by
-// etru_check_key. Of a bundle that etru_begin_bundle did not refuse, no part is refused with the bundle's parameters.
+// etru_check_key. A part that etru_next_entry told of a bundle that etru_begin_bundle did not refuse is not refused by 7
+// or 12, with the bundle's own parameters.
 //   f        ETRU_ARRAY_NUMBERS(n) numbers: exactly t nonzero coefficients, each a unit
 //   f2       ETRU_ARRAY_NUMBERS(n) numbers: F2, reduced modulo 2
 //   part     ETRU_PART_BYTES(n) bytes: the sealed array, reduced modulo q

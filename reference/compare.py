@@ -20,6 +20,12 @@ LOW32, HIGH32 = -(2**31), 2**31 - 1
 LIMIT = 2**40
 
 
+def shown(value):
+    """A value as text, without the middle of a long one."""
+    text = str(value)
+    return text if len(text) <= 1000 else f"{text[:480]} ... {text[-480:]}"
+
+
 class Results:
     def __init__(self):
         self.passed = 0
@@ -31,7 +37,7 @@ class Results:
         else:
             self.failed += 1
             if self.failed <= 20:
-                print(f"FAILED {what}: got {got}, wanted {wanted}")
+                print(f"FAILED {what}: got {shown(got)}, wanted {shown(wanted)}")
 
 
 class Changeable:
@@ -495,6 +501,10 @@ def spoiled_by_two(rng, case, steps):
         for later in some(rng, later_changes):
             for change in some(rng, changes):
                 yield (number, change(later(case)))
+
+
+def all_spoiled(rng, case, steps):
+    return itertools.chain(spoiled_in_order(rng, case, steps), spoiled_by_two(rng, case, steps))
 
 
 def refusals(results, library, rng):

@@ -12,10 +12,10 @@ import sys
 
 import etru_reference as reference
 from compare import Changeable, Results
-from compare import array_changes, at, in_array, outputs_after, parameter_spoils, spoiled_by_two, spoiled_in_order
+from compare import all_spoiled, array_changes, at, in_array, outputs_after, parameter_spoils
 from compare_files import BEFORE_THE_LENGTH, DOCUMENTED_SEALED, HIGH_U32, MEGABYTE, NO_KIND, Files
-from compare_files import file_parameter_spoils, fits, fitting, head_spoils, large_keys, other_lengths, random_numbers
-from compare_files import setting, stored_array, stored_head, wrong_rooms
+from compare_files import file_parameter_spoils, fits, fitting, head_spoils, large_keys, other_lengths
+from compare_files import parameters_before, random_numbers, setting, stored_array, stored_head, wrong_rooms
 from etru_reference import BUNDLE_FILE, PRIVATE_FILE, PUBLIC_FILE, SEALED_FILE
 from keys import ONE, SEALED, SMALL, Key
 from keys import random_message, random_parameters, random_reduced, random_zero_sum, varied_keys
@@ -65,15 +65,8 @@ def random_bundle(rng, p, count):
 # ---- reading
 
 
-def held_before(rng, count):
-    """What outputs of one number each hold before the call; any 32 bits, as for a larger one."""
-    return tuple(rng.randint(0, HIGH_U32) for _ in range(count))
-
-
 def one_head(results, library, rng, what, data, number):
-    n, s, t, count = held_before(rng, 4)
-    c, d = random_numbers(rng, 2)
-    before = (n, c, d, s, t, count)
+    before = (*parameters_before(rng), rng.randint(0, HIGH_U32))
     outcome = reference.call_read_bundle_head(data)
     if number is not None:
         stated = number if number in BEFORE_THE_ENTRIES else 0
@@ -115,19 +108,17 @@ def other_rooms(rooms):
     return [other for other in others if other != rooms]
 
 
-def by_arrays(results, library, rng, data, number):
+def as_arrays(results, library, rng, what, data, number):
     """Read a bundle as a file of arrays: 19 takes kind 4, and then no length is right."""
     head = number if number in BEFORE_THE_LENGTH else 0
-    n, s, t = held_before(rng, 3)
-    c, d = random_numbers(rng, 2)
-    before = (n, c, d, s, t)
+    before = parameters_before(rng)
     wanted = before if head else reference.stored_parameters(data).numbers()
-    results.expect("reading a bundle's head by its kind", library.read_head(BUNDLE_FILE, data, before), (head, wanted))
+    results.expect(f"{what}, read_head", library.read_head(BUNDLE_FILE, data, before), (head, wanted))
     room, due = rng.choice([0, 1, 6, max(len(data) - 16, 0) // 2]), head or 7
     outcome = reference.call_read(BUNDLE_FILE, data, room)
-    results.expect("reading a bundle as arrays, the reference's number", outcome, (due, None))
+    results.expect(f"{what}, read, the reference's outcome", outcome, (due, None))
     before = random_numbers(rng, room)
-    results.expect("reading a bundle as arrays", library.read(BUNDLE_FILE, data, before), (due, before))
+    results.expect(f"{what}, read", library.read(BUNDLE_FILE, data, before), (due, before))
 
 
 def one_file(results, library, rng, data, number=None):
@@ -142,7 +133,7 @@ def one_file(results, library, rng, data, number=None):
     # a room that is wrong is refused after the head and before the entries
     due = number if number in BEFORE_THE_LENGTH else 7
     one_read_bundle(results, library, rng, what, data, rng.choice(other_rooms(rooms)), due)
-    by_arrays(results, library, rng, data, number)
+    as_arrays(results, library, rng, what, data, number)
     return number
 
 
@@ -238,7 +229,7 @@ def documented_example(results, library, rng):
 
 
 def every_length(results, library, rng):
-    """Cut after each byte, and lengthened; the count is right, or the one that would be right for the length."""
+    """Cut after each byte, lengthened, with other counts, and beside the length that each of some counts asks for."""
     for length in range(len(DOCUMENTED)):
         one_file(results, library, rng, DOCUMENTED[:length], 16 if length < 16 else 7)
     for surplus in (*range(1, 40), 65536 - 46, 65537 - 46, MEGABYTE):
@@ -279,7 +270,7 @@ def of_stops(stops):
     return DOCUMENTED_HEAD + struct.pack(">H", count) + b"".join(struct.pack(">H12x", stop) for stop in stops)
 
 
-def one_list(results, library, rng, stops, number):
+def one_list(results, library, stops, number):
     """Read and write a bundle of these stops: the stated number, and outputs that are written or as they came."""
     data, count = of_stops(stops), len(stops)
     what = f"{count} stops {stops[:6]}"
@@ -296,30 +287,28 @@ def stop_numbers(results, library, rng):
     """Every stop number once and twice, and a number twice at the ends, side by side and anywhere of a full bundle."""
     everything = rng.sample(range(2**16), 2**16)
     for start in range(0, 2**16, 4679):
-        one_list(results, library, rng, everything[start : start + 4679], 0)
+        one_list(results, library, everything[start : start + 4679], 0)
     for stop in range(2**16):
-        results.expect(f"stop {stop} twice", library.begin_bundle(of_stops([stop, stop]), (5,)), (25, (5,)))
+        one_list(results, library, [stop, stop], 25)
     # numbers that differ in one bit, or have the same bytes in another order
     for bit in range(16):
         for stop in (0, HIGH_U16, 0x1234, rng.randint(0, HIGH_U16)):
-            one_list(results, library, rng, [stop, stop ^ 1 << bit], 0)
-            one_list(results, library, rng, [stop, stop ^ 1 << bit, stop], 25)
+            one_list(results, library, [stop, stop ^ 1 << bit], 0)
+            one_list(results, library, [stop, stop ^ 1 << bit, stop], 25)
     for pair in [(0, HIGH_U16), (HIGH_U16, 0), (1, 256), (0x1234, 0x3412), (255, 65280), (32767, 32768)]:
-        one_list(results, library, rng, list(pair), 0)
-        one_list(results, library, rng, [*pair, *pair], 25)
+        one_list(results, library, list(pair), 0)
+        one_list(results, library, [*pair, *pair], 25)
     for count in (2, 3, 4, 5, 17, 4678, 4679):
-        distinct = random_stops(rng, count)
-        middle = count // 2
-        pairs = {(0, count - 1), (0, 1), (count - 2, count - 1), (middle - 1, middle), (0, middle), (middle, count - 1)}
-        for i, j in sorted(pairs):
-            for stop in (0, HIGH_U16, distinct[i]) if i != j else ():
-                rest = [other for other in distinct if other != stop]
-                listed = (rest + distinct)[:count]
+        distinct = random_stops(rng, count + 1)
+        ends = {0, 1, count // 2 - 1, count // 2, count - 2, count - 1}
+        for i, j in itertools.combinations(sorted(ends), 2):
+            for stop in (0, HIGH_U16, distinct[i]):
+                listed = [other for other in distinct if other != stop][:count]
                 listed[i] = listed[j] = stop
-                one_list(results, library, rng, listed, 25)
-        for order in (sorted(distinct), sorted(distinct, reverse=True)):
-            one_list(results, library, rng, order, 0)
-    one_list(results, library, rng, [5] * 4679, 25)
+                one_list(results, library, listed, 25)
+        for order in (sorted(distinct[:count]), sorted(distinct[:count], reverse=True)):
+            one_list(results, library, order, 0)
+    one_list(results, library, [5] * 4679, 25)
 
 
 # ---- how many entries fit
@@ -437,11 +426,9 @@ def write_steps(rng, bundle):
 def in_order(results, library, rng, bundle):
     """Every check of reading and writing, and each two of them."""
     right_bundle(results, library, rng, bundle)
-    steps = read_steps(rng, bundle)
-    for number, changed in itertools.chain(spoiled_in_order(rng, bundle, steps), spoiled_by_two(rng, bundle, steps)):
+    for number, changed in all_spoiled(rng, bundle, read_steps(rng, bundle)):
         one_file(results, library, rng, changed.bytes(), number)
-    steps = write_steps(rng, bundle)
-    for number, changed in itertools.chain(spoiled_in_order(rng, bundle, steps), spoiled_by_two(rng, bundle, steps)):
+    for number, changed in all_spoiled(rng, bundle, write_steps(rng, bundle)):
         one_write(results, library, rng, changed, number)
 
 
@@ -549,8 +536,7 @@ def entry_steps(rng, entry):
 def opening(results, library, rng, key, e):
     entry = Entry(key.p, key.f, key.f2, e)
     entry.run(results, library, rng, 0)
-    steps = entry_steps(rng, entry)
-    for number, changed in itertools.chain(spoiled_in_order(rng, entry, steps), spoiled_by_two(rng, entry, steps)):
+    for number, changed in all_spoiled(rng, entry, entry_steps(rng, entry)):
         changed.run(results, library, rng, number)
 
 

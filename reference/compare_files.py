@@ -544,6 +544,12 @@ def random_numbers(rng, count):
     return [rng.randint(LOW32, HIGH32) for _ in range(count)]
 
 
+def parameters_before(rng):
+    """What the outputs for N, c, d, s and t hold before a call."""
+    n, s, t = (rng.randint(0, HIGH_U32) for _ in range(3))
+    return (n, *random_numbers(rng, 2), s, t)
+
+
 def one_read(results, library, rng, wanted, data, room, number=None):
     """Compare reading the head and reading the file, and the reference's numbers with the stated one."""
     what = f"reading, kind {wanted}, {len(data)} bytes, room {room}"
@@ -553,10 +559,9 @@ def one_read(results, library, rng, wanted, data, room, number=None):
         results.expect(what + ", the reference's number", outcome[0], number)
         stated = number if number in BEFORE_THE_LENGTH else 0
         results.expect(what + ", the head, the reference's number", head_number, stated)
-    c, d = random_numbers(rng, 2)
-    n, s, t = (rng.randint(0, HIGH_U32) for _ in range(3))
-    head = (head_number, (n, c, d, s, t) if p is None else p.numbers())
-    results.expect(what + ", the head", library.read_head(wanted, data, (n, c, d, s, t)), head)
+    before = parameters_before(rng)
+    head = (head_number, before if p is None else p.numbers())
+    results.expect(what + ", the head", library.read_head(wanted, data, before), head)
     before = random_numbers(rng, room)
     results.expect(what, library.read(wanted, data, before), outputs_after(outcome, before))
 

@@ -11,7 +11,7 @@ import sys
 
 import etru_reference as reference
 from compare import HIGH32, LOW32, Changeable, Results
-from compare import array_changes, in_array, outputs_after, parameter_spoils, some, spoiled_by_two, spoiled_in_order
+from compare import all_spoiled, array_changes, in_array, outputs_after, parameter_spoils, some
 from etru_reference import UNITS
 from keys import SEALED, SMALL, TRIPLE, Key
 from keys import random_message, random_zero_sum, varied_keys
@@ -209,8 +209,7 @@ def refusals_in_order(results, library, rng, all_cases):
         for s in (case.s - 3, case.s + 3):
             if 3 <= s <= case.n:
                 case.but(s=s, t=1).run(results, library, rng, 7)
-        steps = steps_of(rng, case)
-        for number, changed in itertools.chain(spoiled_in_order(rng, case, steps), spoiled_by_two(rng, case, steps)):
+        for number, changed in all_spoiled(rng, case, steps_of(rng, case)):
             changed.run(results, library, rng, number)
 
 
