@@ -122,7 +122,7 @@ pub enum Kind {
     /// A sealed message: e.
     Sealed = 3,
     /// The sealed messages of a round: entries, each a stop number and an e. It is not made of
-    /// arrays alone, so [`read`] and [`write`] refuse it by 7; [`Bundle`], [`read_bundle`] and
+    /// arrays alone, so [`read`] and [`write()`] refuse it by 7; [`Bundle`], [`read_bundle`] and
     /// [`write_bundle`] are for it.
     Bundle = 4,
 }
