@@ -62,7 +62,13 @@ pub fn begin(bytes: &[u8]) -> Start
     ensures { λ r. ⌜ (r .at ≡ startOf (now (bytes .entry))) × (made (r .made) ≡ outcome (bundleChecks (now (bytes .entry))) (headOf (now (bytes .entry)))) ⌝ }
 {
     match check_bundle(bytes) {
-        Made::Accepted(p) => Start { at: FIRST_ENTRY, made: Made::Accepted(p) },
-        Made::Refused(refusal) => Start { at: bytes.len(), made: Made::Refused(refusal) },
+        Made::Accepted(p) => Start {
+            at: FIRST_ENTRY,
+            made: Made::Accepted(p),
+        },
+        Made::Refused(refusal) => Start {
+            at: bytes.len(),
+            made: Made::Refused(refusal),
+        },
     }
 }

@@ -6,7 +6,7 @@ ghost use lib.ListN.{length};
 ghost use Rattle.refusals.specs.Outcomes.{outcome, number, Gives, Passes};
 ghost use Rattle.refusals.specs.Numbers.{answered};
 ghost use Rattle.parameters.specs.Sets.{setOf, parameterChecks};
-ghost use Rattle.bundles.specs.Calls.{writing, givenChecks};
+ghost use Rattle.bundles.specs.Calls.{writingBundle, givenChecks};
 
 mod entries;
 mod lengths;
@@ -34,7 +34,7 @@ fn given_refusal(p: Parameters, stops: &[u16], numbers: &[i32], room: usize) -> 
 
 fn write_given(p: Parameters, stops: &[u16], numbers: &[i32], file: &mut [u8]) -> Answer
     requires { ⌜ Passes (parameterChecks (setOf p)) ⌝ }
-    ensures { λ r. ⌜ Gives (writing (setOf p) (now (stops .entry)) (now (numbers .entry)) (length (now (file .entry)))) (number (answered r)) (now (file .entry)) (now (file .exit)) ⌝ }
+    ensures { λ r. ⌜ Gives (writingBundle (setOf p) (now (stops .entry)) (now (numbers .entry)) (length (now (file .entry)))) (number (answered r)) (now (file .entry)) (now (file .exit)) ⌝ }
 {
     match given_refusal(p, stops, numbers, file.len()) {
         Answer::Done => {
@@ -47,7 +47,7 @@ fn write_given(p: Parameters, stops: &[u16], numbers: &[i32], file: &mut [u8]) -
 
 // A bundle, to file. The numbers are the arrays of the entries, one after another.
 pub fn write_bundle(p: Parameters, stops: &[u16], numbers: &[i32], file: &mut [u8]) -> Answer
-    ensures { λ r. ⌜ Gives (writing (setOf p) (now (stops .entry)) (now (numbers .entry)) (length (now (file .entry)))) (number (answered r)) (now (file .entry)) (now (file .exit)) ⌝ }
+    ensures { λ r. ⌜ Gives (writingBundle (setOf p) (now (stops .entry)) (now (numbers .entry)) (length (now (file .entry)))) (number (answered r)) (now (file .entry)) (now (file .exit)) ⌝ }
 {
     match p.check() {
         Answer::Done => write_given(p, stops, numbers, file),

@@ -11,7 +11,7 @@ use Rattle.refusals.proofs.Checks.{holds-passed, done-holds, none-left, passed-
 use Rattle.parameters.specs.Sets.{ParameterSet, parameterChecks}
 use Rattle.polynomials.specs.Polynomials.{coefficient, reducedQ}
 use Rattle.bundles.specs.Bundles.{Entry, stopsOf, arrayOf, numbersOf, entryStart, bundleOf}
-use Rattle.bundles.specs.Calls.{rightLength, arraysChecks, entriesChecks, entriesGiven, rightGiven, writingChecks, writing}
+use Rattle.bundles.specs.Calls.{rightLength, arraysChecks, entriesChecks, entriesGiven, rightGiven, writingChecks, writingBundle}
 use Rattle.bundles.proofs.Lengths.{Right, is-right}
 use Rattle.bundles.proofs.GivenEntries.{Full, numbers-count, given-again}
 
@@ -42,8 +42,8 @@ module _ (p : ParameterSet) where
     numbers-right : length (numbersOf es) ≡ 2 * p .N * length (stopsOf es)
     numbers-right = numbers-count (p .N) es full ∙ ap (λ (k : ℕ). 2 * p .N * k) (sym stops-count)
 
-    pub full-written : (room : ℕ) → Passes (parameterChecks p) → Right (p .N) (length es) room → Passes (entriesChecks p es) → writing p (stopsOf es) (numbersOf es) room ≡ done (bundleOf p es)
-    unfolding writing writingChecks
+    pub full-written : (room : ℕ) → Passes (parameterChecks p) → Right (p .N) (length es) room → Passes (entriesChecks p es) → writingBundle p (stopsOf es) (numbersOf es) room ≡ done (bundleOf p es)
+    unfolding writingBundle writingChecks
     full-written room accepted right-room entries =
         let again = given-again (p .N) es full in
         let right-stops : Right (p .N) (length (stopsOf es)) room = record { is = right-room .is ∙ ap (entryStart (p .N)) (sym stops-count); short = right-room .short } in

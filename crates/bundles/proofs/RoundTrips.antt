@@ -28,7 +28,7 @@ use Rattle.files.proofs.Lists.{numbers-length}
 use Rattle.files.proofs.RoundTrips.{bytes-of-list}
 use Rattle.files.proofs.HeadTrips.{written-head, headed-length, written-head-passed, bytes-append, headed-bytes, firsts, unsigned-bytes, read-head}
 use Rattle.bundles.specs.Bundles.{countLength, stopLength, longestBundle, Entry, stopsOf, numbersOf, entryLength, entryStart, entryBytes, entriesBytes, bundleOf, countOf, Stored, storedAt, storedFrom, storedOf, entryOf, entriesOf}
-use Rattle.bundles.specs.Calls.{rightLength, arraysChecks, entriesChecks, bundleHeadChecks, countChecks, readingParameters, readingCount, bundleChecks, rightOutputs, outputChecks, readingChecks, readingStops, readingNumbers, entriesGiven, rightGiven, writingChecks, writing}
+use Rattle.bundles.specs.Calls.{rightLength, arraysChecks, entriesChecks, bundleHeadChecks, countChecks, readingParameters, readingCount, bundleChecks, rightOutputs, outputChecks, readingChecks, readingStops, readingNumbers, entriesGiven, rightGiven, writingChecks, writingBundle}
 use Rattle.bundles.specs.Promises.{Stops16, Reading-undoes-writing, Writing-undoes-reading, Reader-refuses-alike, Written-bytes}
 use Rattle.bundles.proofs.Lengths.{first-start, start-is, entry-length, entries-long, Right, right, is-right}
 use Rattle.bundles.proofs.Entries.{entries-count}
@@ -130,7 +130,7 @@ written-fits p stops numbers room small w =
     fitting-entries p es (accepted-parameters p (w .accepted)) (subst Stops16 (sym (given-stops (p .N) stops numbers)) small) (given-full (p .N) stops numbers (w .numbers-are)) (entries-parts p es (w .entries) .1)
 
 pub reading-undoes-writing : Reading-undoes-writing
-unfolding writing readingParameters readingCount readingStops readingNumbers
+unfolding writingBundle readingParameters readingCount readingStops readingNumbers
 reading-undoes-writing p stops numbers room written small e =
     let es = entriesGiven (p .N) stops numbers in
     let d = done-parts (writingChecks p stops numbers room) (bundleOf p es) written e in
@@ -145,12 +145,13 @@ reading-undoes-writing p stops numbers room written small e =
     let entries = bundle-entries p es parts fits in
     subst
     (λ (f : List ℕ). (outcome (countChecks f) (headOf f) ≡ done p) × (outcome (countChecks f) (countOf f) ≡ done (length stops)) × (outcome (readingChecks f (length stops) (length numbers)) (stopsOf (entriesOf f)) ≡ done stops) × (outcome (readingChecks f (length stops) (length numbers)) (numbersOf (entriesOf f)) ≡ done numbers) × Passes (bundleChecks f))
-    (d .1)
-    (done-with _ _ counts ∙ ap done head,
-    done-with _ _ counts ∙ ap done (bundle-count p es parts fits ∙ count),
-    done-with _ _ reads ∙ ap done (ap (λ (l : List Entry). stopsOf l) entries ∙ given-stops (p .N) stops numbers),
-    done-with _ _ reads ∙ ap done (ap numbersOf entries ∙ given-numbers (p .N) stops numbers (w .numbers-are)),
-    bundle-passes p es parts fits (w .accepted) short (w .entries))
+    (d .1) (
+      done-with _ _ counts ∙ ap done head,
+      done-with _ _ counts ∙ ap done (bundle-count p es parts fits ∙ count),
+      done-with _ _ reads ∙ ap done (ap (λ (l : List Entry). stopsOf l) entries ∙ given-stops (p .N) stops numbers),
+      done-with _ _ reads ∙ ap done (ap numbersOf entries ∙ given-numbers (p .N) stops numbers (w .numbers-are)),
+      bundle-passes p es parts fits (w .accepted) short (w .entries),
+    )
 
 -- ---- what is written are bytes
 
@@ -171,7 +172,7 @@ bundle-are-bytes p es parts fits few =
     headed-bytes bundleKind p (bytes16 (length es) ++ entriesBytes es) (lit< tt) parts (bytes-append (bytes16 (length es)) (entriesBytes es) (omega (arith, few)) (entries-are-bytes (p .N) es fits))
 
 pub written-bytes : Written-bytes
-unfolding writing
+unfolding writingBundle
 written-bytes p stops numbers room written small e =
     let es = entriesGiven (p .N) stops numbers in
     let d = done-parts (writingChecks p stops numbers room) (bundleOf p es) written e in
@@ -235,11 +236,12 @@ writing-undoes-reading file room room′ stops numbers bytes e f =
     let p = headOf file in
     let es = entriesOf file in
     let entries = done-holds 7 (rightOutputs (p .N) (countOf file) room room′) (entriesChecks p es) _ _ (k .1) .1 in
-    let right-file : Right (p .N) (length es) (length file) = record { is = c .right-length .is ∙ ap (entryStart (p .N)) (sym (entries-count file)); short = c .right-length .short } in
-    (done-with (countChecks file) p (k .0),
-    subst (λ (x : List ℕ). writing p x numbers (length file) ≡ done file) (s .1)
-    (subst (λ (x : List ℤ). writing p (stopsOf es) x (length file) ≡ done file) (n .1)
-    (full-written p es (read-full file c) (length file) (c .accepted) right-file entries ∙ ap done (read-bundle file bytes c))))
+    let right-file : Right (p .N) (length es) (length file) = record { is = c .right-length .is ∙ ap (entryStart (p .N)) (sym (entries-count file)); short = c .right-length .short } in (
+      done-with (countChecks file) p (k .0),
+      subst (λ (x : List ℕ). writingBundle p x numbers (length file) ≡ done file) (s .1)
+          (subst (λ (x : List ℤ). writingBundle p (stopsOf es) x (length file) ≡ done file) (n .1)
+          (full-written p es (read-full file c) (length file) (c .accepted) right-file entries ∙ ap done (read-bundle file bytes c))),
+    )
 
 pub reader-refuses-alike : Reader-refuses-alike
 unfolding bundleChecks readingChecks

@@ -81,5 +81,5 @@ givenChecks p stops numbers room =
 unfoldable pub writingChecks : ParameterSet → List ℕ → List ℤ → ℕ → List Check
 writingChecks p stops numbers room = parameterChecks p ++ givenChecks p stops numbers room
 
-unfoldable pub writing : ParameterSet → List ℕ → List ℤ → ℕ → Outcome (List ℕ)
-writing p stops numbers room = outcome (writingChecks p stops numbers room) (bundleOf p (entriesGiven (p .N) stops numbers))
+unfoldable pub writingBundle : ParameterSet → List ℕ → List ℤ → ℕ → Outcome (List ℕ)
+writingBundle p stops numbers room = outcome (writingChecks p stops numbers room) (bundleOf p (entriesGiven (p .N) stops numbers))

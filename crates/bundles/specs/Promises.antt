@@ -9,7 +9,7 @@ use Rattle.parameters.specs.Sets.{ParameterSet}
 use Rattle.packing.specs.Promises.{Bytes}
 use Rattle.heads.specs.Heads.{headOf}
 use Rattle.bundles.specs.Bundles.{countOf, storedOf}
-use Rattle.bundles.specs.Calls.{readingParameters, readingCount, bundleChecks, readingChecks, readingStops, readingNumbers, writing}
+use Rattle.bundles.specs.Calls.{readingParameters, readingCount, bundleChecks, readingChecks, readingStops, readingNumbers, writingBundle}
 use Rattle.bundles.specs.Steps.{startOf, past, handed, walk}
 
 -- Stops of 16 bits.
@@ -19,14 +19,14 @@ Stops16 stops = (k : ℕ) → getD stops k 0 < 65536
 -- What is written reads back to the same parameters, count, stops and numbers, and a reader of it is made.
 abbrev pub Reading-undoes-writing : Type 0
 Reading-undoes-writing =
-    (p : ParameterSet) (stops : List ℕ) (numbers : List ℤ) (room : ℕ) (file : List ℕ) → Stops16 stops → writing p stops numbers room ≡ done file
+    (p : ParameterSet) (stops : List ℕ) (numbers : List ℤ) (room : ℕ) (file : List ℕ) → Stops16 stops → writingBundle p stops numbers room ≡ done file
     → (readingParameters file ≡ done p) × (readingCount file ≡ done (length stops)) × (readingStops file (length stops) (length numbers) ≡ done stops) × (readingNumbers file (length stops) (length numbers) ≡ done numbers) × Passes (bundleChecks file)
 
 -- What is read without refusal writes back to the same bytes, with the parameters of its head.
 abbrev pub Writing-undoes-reading : Type 0
 Writing-undoes-reading =
     (file : List ℕ) (room room′ : ℕ) (stops : List ℕ) (numbers : List ℤ) → Bytes file → readingStops file room room′ ≡ done stops → readingNumbers file room room′ ≡ done numbers
-    → (readingParameters file ≡ done (headOf file)) × (writing (headOf file) stops numbers (length file) ≡ done file)
+    → (readingParameters file ≡ done (headOf file)) × (writingBundle (headOf file) stops numbers (length file) ≡ done file)
 
 -- A reader refuses what reading to outputs of the right lengths refuses, by the same number.
 abbrev pub Reader-refuses-alike : Type 0
@@ -34,7 +34,7 @@ Reader-refuses-alike = (file : List ℕ) → outcome (bundleChecks file) (tt {0}
 
 -- What is written are bytes.
 abbrev pub Written-bytes : Type 0
-Written-bytes = (p : ParameterSet) (stops : List ℕ) (numbers : List ℤ) (room : ℕ) (file : List ℕ) → Stops16 stops → writing p stops numbers room ≡ done file → Bytes file
+Written-bytes = (p : ParameterSet) (stops : List ℕ) (numbers : List ℤ) (room : ℕ) (file : List ℕ) → Stops16 stops → writingBundle p stops numbers room ≡ done file → Bytes file
 
 -- "walks its entries": from the start of a made reader on, the steps hand out exactly the entries of the bundle, in order, then that the end is past, and nothing else.
 abbrev pub Walking : Type 0

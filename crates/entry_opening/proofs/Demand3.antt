@@ -22,7 +22,7 @@ use Rattle.heads.proofs.PartsFit.{PartsFit, parts-fit}
 use Rattle.files.specs.Files.{numbersFrom}
 use Rattle.stop_sets.specs.Stops.{anyTwice}
 use Rattle.bundles.specs.Bundles.{longestBundle, Entry, stopsOf, arrayOf, numbersOf, entryStart, bundleOf, countOf, entriesOf}
-use Rattle.bundles.specs.Calls.{arraysChecks, entriesChecks, writingChecks, writing}
+use Rattle.bundles.specs.Calls.{arraysChecks, entriesChecks, writingChecks, writingBundle}
 use Rattle.bundles.specs.Steps.{stopAt, partAt}
 use Rattle.bundles.specs.declared.Stop.the-variants.{Number}
 use Rattle.bundles.proofs.Entries.{stop-is}
@@ -74,7 +74,7 @@ module _ {p : ParameterSet} {f F2 Fq g h : List ℤ} {es : List Entry} {messages
   entries-reduced = each-reduced p es (λ k l. opened-reduced p f F2 (arrayOf es k) _ _ (entry-opens k l))
 
   -- nothing is refused
-  writes : anyTwice (stopsOf es) ≡ false → entryStart (p .N) (length es) ≤ longestBundle → writing p (stopsOf es) (numbersOf es) (entryStart (p .N) (length es)) ≡ done (bundleOf p es)
+  writes : anyTwice (stopsOf es) ≡ false → entryStart (p .N) (length es) ≤ longestBundle → writingBundle p (stopsOf es) (numbersOf es) (entryStart (p .N) (length es)) ≡ done (bundleOf p es)
   unfolding entriesChecks
   writes once short = full-written p es entries-full _ (accepted .checks) (record { is = refl; short = short }) (passed 25 (arraysChecks p es) tt once ∙ entries-reduced)
 
@@ -133,8 +133,8 @@ module _ {p : ParameterSet} {f F2 Fq g h : List ℤ} {es : List Entry} {messages
       opens = part-opens;
     }
 
-  opens : (room : ℕ) (file : List ℕ) → writing p (stopsOf es) (numbersOf es) room ≡ done file → OpensEntries p f F2 es messages file
-  unfolding writing
+  opens : (room : ℕ) (file : List ℕ) → writingBundle p (stopsOf es) (numbersOf es) room ≡ done file → OpensEntries p f F2 es messages file
+  unfolding writingBundle
   opens room file e =
       let again = given-again (p .N) es entries-full in
       let d = done-parts (writingChecks p (stopsOf es) (numbersOf es) room) _ file e in

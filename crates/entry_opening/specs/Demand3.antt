@@ -13,7 +13,7 @@ use Rattle.etru.specs.Demand3.{AcceptedKey, Ephemeral, Message}
 use Rattle.heads.specs.Heads.{headOf}
 use Rattle.stop_sets.specs.Stops.{anyTwice}
 use Rattle.bundles.specs.Bundles.{longestBundle, Entry, stopsOf, arrayOf, numbersOf, entryStart, bundleOf, countOf}
-use Rattle.bundles.specs.Calls.{bundleChecks, writing}
+use Rattle.bundles.specs.Calls.{bundleChecks, writingBundle}
 use Rattle.bundles.specs.Promises.{Stops16}
 use Rattle.bundles.specs.Steps.{stopAt, partAt}
 use Rattle.bundles.specs.declared.Stop.the-variants.{Number}
@@ -42,7 +42,7 @@ pub record OpensEntries (p : ParameterSet) (f F2 : List ℤ) (es : List Entry) (
 pub record Demand-3 : Type 0 where
   -- Writing refuses nothing, where no stop occurs twice and the bundle is not too long.
   pub writes : (p : ParameterSet) (f F2 Fq g h : List ℤ) (es : List Entry) (messages : List (List ℕ)) → AcceptedKey p f F2 Fq g h → SealedEntries p h es messages → anyTwice (stopsOf es) ≡ false → entryStart (p .N) (length es) ≤ longestBundle
-      → writing p (stopsOf es) (numbersOf es) (entryStart (p .N) (length es)) ≡ done (bundleOf p es)
+      → writingBundle p (stopsOf es) (numbersOf es) (entryStart (p .N) (length es)) ≡ done (bundleOf p es)
   -- What is written opens.
   pub opens : (p : ParameterSet) (f F2 Fq g h : List ℤ) (es : List Entry) (messages : List (List ℕ)) (room : ℕ) (file : List ℕ) → AcceptedKey p f F2 Fq g h → SealedEntries p h es messages
-      → writing p (stopsOf es) (numbersOf es) room ≡ done file → OpensEntries p f F2 es messages file
+      → writingBundle p (stopsOf es) (numbersOf es) room ≡ done file → OpensEntries p f F2 es messages file

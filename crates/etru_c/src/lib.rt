@@ -3,8 +3,10 @@
 // At every N `etru_open_files` takes at most 72 KiB of stack, `etru_seal_places` 36 KiB, `etru_open`, `etru_check_key` and `etru_spread_places` 28 KiB,
 // `etru_seal` and `etru_read` 12 KiB, and each other function 1 KiB.
 ghost use mathlib.Core.Path.{_≡_};
+ghost use mathlib.Core.Bool.{cond};
+ghost use Prim.Native.Nat.{_+_};
 ghost use lib.ListN.{length};
-ghost use Rattle.refusals.specs.Outcomes.{number, Gives};
+ghost use Rattle.refusals.specs.Outcomes.{number, outcome, Gives};
 ghost use Rattle.eisenstein.specs.Values.{value};
 ghost use Rattle.eisenstein.specs.Calls.{reduce2};
 ghost use Rattle.remainders.specs.Calls.{reduceQ};
@@ -16,7 +18,13 @@ ghost use Rattle.etru.specs.Calls.{keyCheck, sealing, opening};
 ghost use Rattle.placed_ephemerals.specs.Calls.{spreading, placesSealing};
 ghost use Rattle.head_reading.specs.Calls.{readingHead};
 ghost use Rattle.files.specs.Calls.{reading, writing};
+ghost use Rattle.heads.specs.Heads.{headOf};
+ghost use Rattle.bundles.specs.Bundles.{stopLength, entryStart, storedAt};
+ghost use Rattle.bundles.specs.Calls.{bundleChecks, readingParameters, readingCount, readingStops, readingNumbers, writingBundle};
+ghost use Rattle.bundles.specs.Steps.{standsAt, nextAt};
+ghost use Rattle.entry_opening.specs.Calls.{openingEntry};
 ghost use Rattle.opening.specs.Program.{lineWriting, lineLength};
+use parameters::Made;
 use parameters::Parameters;
 use placed_units::PlacedUnit;
 
@@ -217,6 +225,113 @@ pub extern "C" fn etru_write(
 {
     let p = Parameters { n, c, d, s, t };
     file_writing::write(kind, p, numbers, file).number()
+}
+
+// The parameters of a bundle, to n, c, d, s and t, and how many entries it has, to count: they tell what to lend for its entries.
+#[no_mangle]
+pub extern "C" fn etru_read_bundle_head(
+    file: &[u8],
+    n: &mut u32,
+    c: &mut i32,
+    d: &mut i32,
+    s: &mut u32,
+    t: &mut u32,
+    count: &mut u32,
+) -> u32
+    ensures { λ r. ⌜ Gives (readingParameters (now (file .entry))) r
+        (set (now (n .entry)) (now (c .entry)) (now (d .entry)) (now (s .entry)) (now (t .entry)))
+        (set (now (n .exit)) (now (c .exit)) (now (d .exit)) (now (s .exit)) (now (t .exit))) ⌝ }
+    ensures { λ r. ⌜ Gives (readingCount (now (file .entry))) r (now (count .entry)) (now (count .exit)) ⌝ }
+{
+    let answer = bundle_heads::read_bundle_head(file);
+    let entries = bundle_heads::entry_count(file);
+    let number = answer_outputs::give_parameters(answer, n, c, d, s, t);
+    if number == 0 {
+        *count = entries;
+    }
+    number
+}
+
+// Makes a reader: every refusal of a bundle comes here. Where its first entry stands goes to at.
+#[no_mangle]
+pub extern "C" fn etru_begin_bundle(file: &[u8], at: &mut usize) -> u32
+    ensures { λ r. ⌜ Gives (outcome (bundleChecks (now (file .entry))) (entryStart (headOf (now (file .entry)) .N) 0)) r (now (at .entry)) (now (at .exit)) ⌝ }
+{
+    let start = bundle_checks::begin(file);
+    let first = start.at;
+    let made = start.made;
+    match made {
+        Made::Accepted(p) => {
+            *at = first;
+            0
+        }
+        Made::Refused(refusal) => refusal.number(),
+    }
+}
+
+// A step of a reader: 1, and the entry's stop goes to stop, the place of its sealed array to part, and at moves on; 0 past the end, and nothing is written. It refuses nothing, so what it returns is no refusal.
+#[no_mangle]
+pub extern "C" fn etru_next_entry(
+    file: &[u8],
+    at: &mut usize,
+    stop: &mut u32,
+    part: &mut usize,
+) -> u32
+    ensures { λ r. ⌜ (r ≡ cond (standsAt (now (file .entry)) (now (at .entry))) 1 0) × (now (at .exit) ≡ nextAt (now (file .entry)) (now (at .entry))) ⌝ }
+    ensures { λ r. ⌜ now (stop .exit) ≡ cond (standsAt (now (file .entry)) (now (at .entry)))
+        (storedAt (headOf (now (file .entry)) .N) (now (file .entry)) (now (at .entry)) .stop) (now (stop .entry)) ⌝ }
+    ensures { λ r. ⌜ now (part .exit) ≡ cond (standsAt (now (file .entry)) (now (at .entry))) (now (at .entry) + stopLength) (now (part .entry)) ⌝ }
+{
+    if bundle_steps::next_entry(file, at, stop, part) {
+        return 1;
+    }
+    0
+}
+
+// Opens an entry of a bundle: part is its sealed array, 4N of the bundle's bytes. The message goes to message.
+#[no_mangle]
+pub extern "C" fn etru_open_entry(
+    n: u32,
+    c: i32,
+    d: i32,
+    s: u32,
+    t: u32,
+    f: &[i32],
+    f2: &[i32],
+    part: &[u8],
+    message: &mut [u8],
+) -> u32
+    ensures { λ r. ⌜ Gives (openingEntry (set n c d s t) (now (f .entry)) (now (f2 .entry)) (now (part .entry)) (length (now (message .entry)))) r (now (message .entry)) (now (message .exit)) ⌝ }
+{
+    let p = Parameters { n, c, d, s, t };
+    entry_opening::open_entry(p, f, f2, part, message).number()
+}
+
+// The stops of a bundle to stops, and its arrays, one after another in stored order, to numbers.
+#[no_mangle]
+pub extern "C" fn etru_read_bundle(file: &[u8], stops: &mut [u32], numbers: &mut [i32]) -> u32
+    ensures { λ r. ⌜ Gives (readingStops (now (file .entry)) (length (now (stops .entry))) (length (now (numbers .entry)))) r (now (stops .entry)) (now (stops .exit)) ⌝ }
+    ensures { λ r. ⌜ Gives (readingNumbers (now (file .entry)) (length (now (stops .entry))) (length (now (numbers .entry)))) r (now (numbers .entry)) (now (numbers .exit)) ⌝ }
+{
+    bundle_reading::read_bundle(file, stops, numbers).number()
+}
+
+// A bundle, to file. The numbers are the arrays of its entries, one after another.
+#[no_mangle]
+pub extern "C" fn etru_write_bundle(
+    n: u32,
+    c: i32,
+    d: i32,
+    s: u32,
+    t: u32,
+    stops: &[u16],
+    numbers: &[i32],
+    file: &mut [u8],
+) -> u32
+    ensures { λ r. ⌜ Gives (writingBundle (set n c d s t) (now (stops .entry)) (now (numbers .entry)) (length (now (file .entry)))) r (now (file .entry)) (now (file .exit)) ⌝ }
+{
+    let p = Parameters { n, c, d, s, t };
+    bundle_writing::write_bundle(p, stops, numbers, file).number()
 }
 
 // The line that the opening program prints for its input, to the front of line, and its length to used. Any input has its line, so 7 for a line that is not lent with 515 bytes is the only refusal.

@@ -10,11 +10,11 @@ ghost use Rattle.array_sets.specs.declared.ArraySet.the-variants.{ReducedModulo
 ghost use Rattle.heads.specs.Kinds.{arraysOf};
 ghost use Rattle.files.specs.Files.{fileNumbers, numbersFrom, arrayAt};
 ghost use Rattle.files.specs.Calls.{setChecks};
-use stored_numbers::read_numbers;
 use heads::kinds::array_count;
 use heads::kinds::array_set;
 use parameters::Parameters;
 use refusals::Answer;
+use stored_numbers::read_numbers;
 
 // Judges array k by its bytes. Its numbers go to a lent array.
 fn stored_array_refusal(kind: u32, p: Parameters, k: usize, bytes: &[u8], x: &mut [i32]) -> Answer

@@ -6,12 +6,12 @@ ghost use Rattle.refusals.specs.Numbers.{answered};
 ghost use Rattle.parameters.specs.Sets.{setOf, parameterChecks};
 ghost use Rattle.files.specs.Calls.{storedChecks, readingContent};
 use crate::contents::stored_refusal;
-use stored_numbers::read_numbers;
 use files::lengths_right;
 use heads::HEAD_BYTES;
 use parameters::Parameters;
 use refusals::Answer;
 use refusals::Refusal;
+use stored_numbers::read_numbers;
 
 // The arrays are judged one at a time in 8 KiB of stack, since a refusal leaves the lent output as it came.
 fn reading_refusal(kind: u32, p: Parameters, file: &[u8], room: usize) -> Answer

@@ -12,13 +12,13 @@ ghost use Rattle.heads.specs.Heads.{headLength};
 ghost use Rattle.files.specs.Files.{fileOf};
 ghost use Rattle.files.specs.Calls.{givenChecks, writingContent};
 use crate::contents::sets_refusal;
-use stored_numbers::write_numbers;
 use files::lengths_right;
 use head_writing::write_head;
 use heads::HEAD_BYTES;
 use parameters::Parameters;
 use refusals::Answer;
 use refusals::Refusal;
+use stored_numbers::write_numbers;
 
 fn writing_refusal(kind: u32, p: Parameters, numbers: &[i32], room: usize) -> Answer
     requires { ⌜ Passes (parameterChecks (setOf p)) ⌝ }

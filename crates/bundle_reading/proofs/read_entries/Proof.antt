@@ -79,9 +79,10 @@ read-entries-spec =
     let k = c .before .before .before .before .before .before .before in
     let e = k .before .before .before .before in
     let s = e .before .before .before .before in
-    let p = all-passed k in
-    (gives-done (checks s) _ (s .args .stops .now) _ p (was-formed _ _ (eq-eqb _ _ (outputs e .0)) (c .before .before .before .before .before .read-stops .ensures) .1),
-    gives-done (checks s) _ (s .args .numbers .now) _ p (c .before .read-arrays .ensures)))
+    let p = all-passed k in (
+      gives-done (checks s) _ (s .args .stops .now) _ p (was-formed _ _ (eq-eqb _ _ (outputs e .0)) (c .before .before .before .before .before .read-stops .ensures) .1),
+      gives-done (checks s) _ (s .args .numbers .now) _ p (c .before .read-arrays .ensures),
+    ))
     (λ c.
     let r = c .before .before .before in
     let e = r .before in

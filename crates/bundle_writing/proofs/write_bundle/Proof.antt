@@ -7,7 +7,7 @@ use Rattle.refusals.specs.Outcomes.{outcome}
 use Rattle.refusals.specs.Numbers.{answered}
 use Rattle.refusals.proofs.Checks.{refused-first, gives-refused}
 use Rattle.parameters.specs.Sets.{setOf, parameterChecks}
-use Rattle.bundles.specs.Calls.{givenChecks, writingChecks, writing}
+use Rattle.bundles.specs.Calls.{givenChecks, writingChecks, writingBundle}
 use Rattle.bundle_writing.proofs.write_bundle.Statement.{statement}
 use Rattle.bundle_writing.proofs.write_bundle.Tie as tie
 
@@ -15,7 +15,7 @@ checked : (c : tie.After-check) → answered (c .check .result) ≡ outcome (par
 checked c = c .check .ensures
 
 pub write-bundle-spec : {M : Type 1} → statement M
-unfolding writing writingChecks
+unfolding writingBundle writingChecks
 write-bundle-spec =
     tie.close
     (tie.spec

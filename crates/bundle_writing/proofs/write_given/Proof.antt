@@ -11,7 +11,7 @@ use Rattle.refusals.proofs.Checks.{passed-all, gives-done, gives-refused}
 use Rattle.parameters.specs.Sets.{setOf, parameterChecks}
 use Rattle.parameters.proofs.AcceptedParameters.{accepted-parameters}
 use Rattle.arrays.specs.Arrays.{Small}
-use Rattle.bundles.specs.Calls.{entriesGiven, givenChecks, writingChecks, writing}
+use Rattle.bundles.specs.Calls.{entriesGiven, givenChecks, writingChecks, writingBundle}
 use Rattle.bundles.proofs.EntryChecks.{entries-parts}
 use Rattle.bundles.proofs.GivenEntries.{given-full, given-numbers, small-numbers}
 use Rattle.bundles.proofs.RoundTrips.{Written, writing-passed}
@@ -44,7 +44,7 @@ small c =
     subst Small (given-numbers (p .N) (s .args .stops .now) (s .args .numbers .now) (w .numbers-are)) (small-numbers p es (accepted-parameters p (w .accepted)) (given-full (p .N) (s .args .stops .now) (s .args .numbers .now) (w .numbers-are)) (entries-parts p es (w .entries) .1))
 
 pub write-given-spec : {M : Type 1} → statement M
-unfolding writing
+unfolding writingBundle
 write-given-spec =
     tie.close
     (tie.spec

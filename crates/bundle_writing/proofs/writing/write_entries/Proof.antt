@@ -103,7 +103,7 @@ put : (w : tie.After-write-entry Inv-loop μ-loop) → let c = w .before .before
 put w =
     let c = w .before .before .before .before in
     let entry : w .write-entry .last .1 .1 .0 ≡ entryBytes (getD (es c) (k c) (entryIs 0 [])) =
-        w .write-entry .ensures ∙ ap (λ (x : List ℤ). entryBytes (entryIs (getD (s c .args .stops .now) (k c) 0) x)) (array-is c) ∙ ap entryBytes (sym (given-entry (n c) (s c .args .stops .now) (s c .args .numbers .now) (k c) (within c))) in
+    w .write-entry .ensures ∙ ap (λ (x : List ℤ). entryBytes (entryIs (getD (s c .args .stops .now) (k c) 0) x)) (array-is c) ∙ ap entryBytes (sym (given-entry (n c) (s c .args .stops .now) (s c .args .numbers .now) (k c) (within c))) in
     let width : long c * k c + long c - long c * k c ≡ entryLength (n c) = omega (arith, long-is c) in
     ap₂ (λ (a : ℕ) (x : List ℕ). take a (l c .loop .out) ++ (x ++ drop (long c * k c + long c - long c * k c) (drop a (l c .loop .out)))) (at-is c) entry
     ∙ put-next (entryLength (n c)) (k c) _ (s c .args .out .now) (entriesBytes (take (k c) (es c))) (l c .loop .out) (entryBytes (getD (es c) (k c) (entryIs 0 []))) (l c .loop .inv .1) (long-so-far c) width
