@@ -1,13 +1,13 @@
 -- Blocks of one width, put one after another over a list.
-use mathlib.Core.Path.{_≡_, refl, sym, _∙_, ap, ap₂}
+use mathlib.Core.Path.{_≡_, sym, _∙_, ap, ap₂}
 use mathlib.Core.List.{List, [], _∷_, _++_, append-assoc, append-nil}
-use Prim.Native.Nat.{ℕ, zero, suc, _+_, _-_, _*_, _≤_, _<_}
+use Prim.Native.Nat.{ℕ, zero, suc, _+_, _*_, _≤_, _<_}
 use native.Mathlib.Numerals.{add-one}
 use native.Mathlib.Omega.{arith}
 use native.Mathlib.Nat.{mul-suc}
 use lib.IntN.{ℤ}
 use lib.ListN.{length, getD, take, drop, length-append, drop-of-length-le}
-use lib.Seq.{take-at, drop-at, drop-drop, take-all}
+use lib.Seq.{take-at, drop-at, drop-drop}
 use Rattle.bundles.specs.Bundles.{Entry, arrayOf, numbersOf, entryLength, entryBytes, entriesBytes}
 use Rattle.bundles.proofs.GivenEntries.{Full}
 use Rattle.bundles.proofs.StoredEntries.{entry-bytes-length}

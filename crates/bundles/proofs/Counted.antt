@@ -1,8 +1,8 @@
 -- A bundle whose head, count and length are right: where its entries stand.
-use mathlib.Core.Path.{_≡_, refl, sym, _∙_, ap, subst}
+use mathlib.Core.Path.{_≡_, sym, _∙_, ap}
 use mathlib.Core.Bool.{true, false}
-use mathlib.Core.List.{List, [], _∷_}
-use Prim.Native.Nat.{ℕ, suc, _+_, _*_, _≤_, _<_}
+use mathlib.Core.List.{List}
+use Prim.Native.Nat.{ℕ, _+_, _*_, _≤_, _<_}
 use native.Mathlib.Numerals.{add-one}
 use native.Mathlib.Omega.{arith}
 use native.Mathlib.Nat.{mul-le-mul-left}
@@ -10,7 +10,7 @@ use lib.ListN.{length, take, drop, length-drop}
 use lib.Seq.{length-take-le}
 use Rattle.refusals.specs.Outcomes.{Passes}
 use Rattle.refusals.proofs.Checks.{done-all, done-holds}
-use Rattle.parameters.specs.Sets.{ParameterSet, parameterChecks}
+use Rattle.parameters.specs.Sets.{parameterChecks}
 use Rattle.heads.specs.Kinds.{bundleKind}
 use Rattle.heads.specs.Heads.{headOf}
 use Rattle.head_reading.specs.Calls.{headChecks}

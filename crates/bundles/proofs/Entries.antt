@@ -1,12 +1,11 @@
 -- The entries of a bundle by their places.
-use mathlib.Core.Path.{_≡_, refl, sym, _∙_, ap, ap₂}
-use mathlib.Core.List.{List, [], _∷_, map}
+use mathlib.Core.Path.{_≡_, refl, _∙_, ap}
+use mathlib.Core.List.{List, []}
 use Prim.Native.Nat.{ℕ, zero, suc, _+_, _*_, _<_}
 use native.Mathlib.Omega.{arith}
-use native.Mathlib.Nat.{mul-zero, mul-suc, add-assoc}
-use lib.IntN.{ℤ}
+use native.Mathlib.Nat.{mul-zero, mul-suc}
 use lib.ListN.{length, getD, take, drop, length-map, List·getD-map}
-use Rattle.heads.specs.Heads.{headOf, unsignedAt}
+use Rattle.heads.specs.Heads.{headOf}
 use Rattle.files.specs.Files.{numbersFrom}
 use Rattle.bundles.specs.Bundles.{Entry, stopsOf, arrayOf, stopLength, entryLength, entryStart, countOf, stopIn, Stored, storedAt, storedFrom, storedOf, entryOf, entriesOf}
 use Rattle.bundles.proofs.Lengths.{first-start}

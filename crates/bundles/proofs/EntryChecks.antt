@@ -1,11 +1,10 @@
 -- The checks of a bundle's arrays, entry by entry.
-use mathlib.Core.Path.{_≡_, refl, sym, _∙_, ap}
+use mathlib.Core.Path.{_≡_, sym, _∙_, ap}
 use mathlib.Core.Bool.{false}
 use mathlib.Core.List.{List, [], _∷_}
-use Prim.Native.Nat.{ℕ, suc, _+_, _<_}
+use Prim.Native.Nat.{ℕ, _+_, _<_}
 use native.Mathlib.Numerals.{add-one}
-use lib.IntN.{ℤ}
-use lib.ListN.{length, getD, drop}
+use lib.ListN.{length, drop}
 use lib.Seq.{drop-cons, drop-length}
 use Rattle.refusals.specs.Outcomes.{Check, refused, outcome, Passes}
 use Rattle.refusals.proofs.Checks.{done-passed, passed-all, refused-first, none-left}

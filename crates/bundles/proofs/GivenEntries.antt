@@ -1,12 +1,12 @@
 -- Entries that are handed over as stops and numbers, and handed out as such.
-use mathlib.Core.Path.{_≡_, refl, sym, _∙_, ap, ap₂, subst}
+use mathlib.Core.Path.{_≡_, refl, sym, _∙_, ap, ap₂}
 use mathlib.Core.List.{List, [], _∷_, _++_}
 use Prim.Native.Nat.{ℕ, zero, suc, _+_, _*_, _<_}
 use native.Mathlib.Omega.{arith}
 use native.Mathlib.Nat.{mul-zero, mul-suc}
 use lib.Dec.{lit≤}
 use lib.IntN.{ℤ}
-use lib.ListN.{length, getD, take, drop, length-append, length-drop, take-append-drop, length-map}
+use lib.ListN.{length, getD, take, drop, length-append, length-drop, take-append-drop}
 use lib.Seq.{take-at, drop-at, drop-drop, length-take-le}
 use Rattle.refusals.specs.Outcomes.{Passes}
 use Rattle.refusals.proofs.Checks.{done-holds}
@@ -19,7 +19,7 @@ use Rattle.files.proofs.Lists.{fitting-small}
 use Rattle.bundles.specs.Bundles.{Entry, entryIs, stopsOf, arrayOf, numbersOf}
 use Rattle.bundles.specs.Calls.{arraysChecks, entriesGiven}
 use Rattle.bundles.specs.Promises.{Stops16}
-use Rattle.bundles.proofs.StoredEntries.{FittingEntry, FittingEntries}
+use Rattle.bundles.proofs.StoredEntries.{FittingEntries}
 
 -- each array has 2N numbers
 abbrev pub Full : ℕ → List Entry → Type 0

@@ -10,3 +10,4 @@ pub mod GivenEntries
 pub mod Blocks
 pub mod FullEntries
 pub mod RoundTrips
+pub mod Orders

@@ -1,7 +1,6 @@
 -- Reading a bundle and writing one undo each other.
 use mathlib.Core.Path.{_≡_, refl, sym, _∙_, ap, ap₂, subst}
-use mathlib.Core.Bool.{_&&_}
-use mathlib.Core.List.{List, [], _∷_, _++_, map, append-assoc}
+use mathlib.Core.List.{List, [], _∷_, _++_, map}
 use Prim.Native.Nat.{ℕ, zero, suc, _+_, _*_, _≤_, _<_}
 use native.Mathlib.Omega.{arith}
 use native.Mathlib.Nat.{mul-suc}
@@ -12,7 +11,7 @@ use lib.Seq.{getD-drop, drop-drop, length-take-le}
 use mir.Facts.{and-yes}
 use Rattle.integers.proofs.Tests.{equal-2}
 use Rattle.refusals.specs.Outcomes.{done, outcome, Passes}
-use Rattle.refusals.proofs.Checks.{holds-passed, none-left, done-holds, done-passed, done-parts, done-all, passed-all, done-with, same-first}
+use Rattle.refusals.proofs.Checks.{holds-passed, none-left, done-holds, done-parts, done-all, passed-all, done-with, same-first}
 use Rattle.parameters.specs.Sets.{ParameterSet, parameterChecks}
 use Rattle.parameters.proofs.AcceptedParameters.{accepted-parameters}
 use Rattle.packing.specs.Messages.{listed}
@@ -28,7 +27,7 @@ use Rattle.files.proofs.Lists.{numbers-length}
 use Rattle.files.proofs.RoundTrips.{bytes-of-list}
 use Rattle.files.proofs.HeadTrips.{written-head, headed-length, written-head-passed, bytes-append, headed-bytes, firsts, unsigned-bytes, read-head}
 use Rattle.bundles.specs.Bundles.{countLength, stopLength, longestBundle, Entry, stopsOf, numbersOf, entryLength, entryStart, entryBytes, entriesBytes, bundleOf, countOf, Stored, storedAt, storedFrom, storedOf, entryOf, entriesOf}
-use Rattle.bundles.specs.Calls.{rightLength, arraysChecks, entriesChecks, bundleHeadChecks, countChecks, readingParameters, readingCount, bundleChecks, rightOutputs, outputChecks, readingChecks, readingStops, readingNumbers, entriesGiven, rightGiven, writingChecks, writingBundle}
+use Rattle.bundles.specs.Calls.{rightLength, entriesChecks, bundleHeadChecks, countChecks, readingParameters, readingCount, bundleChecks, rightOutputs, outputChecks, readingChecks, readingStops, readingNumbers, entriesGiven, rightGiven, writingChecks, writingBundle}
 use Rattle.bundles.specs.Promises.{Stops16, Reading-undoes-writing, Writing-undoes-reading, Reader-refuses-alike, Written-bytes}
 use Rattle.bundles.proofs.Lengths.{first-start, start-is, entry-length, entries-long, Right, right, is-right}
 use Rattle.bundles.proofs.Entries.{entries-count}

@@ -1,5 +1,5 @@
 -- Entries as bytes: what is written is stored, and what is stored is written back.
-use mathlib.Core.Path.{_≡_, refl, sym, _∙_, ap, ap₂, subst}
+use mathlib.Core.Path.{_≡_, refl, sym, _∙_, ap, ap₂}
 use mathlib.Core.List.{List, [], _∷_, _++_, map}
 use Prim.Native.Nat.{ℕ, zero, suc, _+_, _*_, _≤_, _<_}
 use native.Mathlib.Numerals.{add-one}
@@ -8,10 +8,10 @@ use native.Mathlib.Nat.{add-zero, zero-add, mul-suc}
 use lib.IntN.{ℤ}
 use lib.Dec.{lit<}
 use lib.ListN.{length, getD, take, drop, length-append, length-drop, take-append-drop}
-use lib.Seq.{getD-drop, getD-take, drop-drop, take-at, drop-at, length-take-le}
+use lib.Seq.{getD-drop, drop-drop, take-at, drop-at, length-take-le}
 use Rattle.packing.specs.Promises.{Bytes}
 use Rattle.heads.specs.Heads.{bytes16, number16, unsignedAt}
-use Rattle.files.specs.Files.{numbersFrom, bytesOf}
+use Rattle.files.specs.Files.{bytesOf}
 use Rattle.heads.proofs.Numbers.{number-bytes, bytes-number}
 use Rattle.files.proofs.Lists.{Fitting, bytes-length, numbers-of-bytes, bytes-of-numbers}
 use Rattle.bundles.specs.Bundles.{stopLength, Entry, entryLength, entryBytes, entriesBytes, stopIn, Stored, storedAt, storedFrom, entryOf}

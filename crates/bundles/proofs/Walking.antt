@@ -1,18 +1,17 @@
 -- The steps of a made reader hand out the entries of its bundle, and nothing else.
-use mathlib.Core.Path.{_≡_, refl, sym, _∙_, ap, ap₂}
+use mathlib.Core.Path.{_≡_, refl, _∙_, ap, ap₂}
 use mathlib.Core.Bool.{false}
-use mathlib.Core.List.{List, [], _∷_, _++_, map}
+use mathlib.Core.List.{List, _∷_, _++_, map}
 use Prim.Native.Nat.{ℕ, zero, suc, _+_, _<_}
 use native.Mathlib.Numerals.{add-one}
 use native.Mathlib.Omega.{arith}
 use native.Mathlib.Nat.{suc-add, zero-add}
 use lib.ListN.{replicate}
-use Rattle.refusals.specs.Outcomes.{Passes}
 use Rattle.refusals.proofs.Checks.{done-all}
 use Rattle.heads.specs.Heads.{headOf}
-use Rattle.bundles.specs.Bundles.{entryLength, entryStart, countOf, Stored, storedAt, storedFrom, storedOf}
+use Rattle.bundles.specs.Bundles.{entryLength, entryStart, countOf, storedAt, storedFrom, storedOf}
 use Rattle.bundles.specs.Calls.{countChecks, bundleChecks}
-use Rattle.bundles.specs.Steps.{standsAt, stopAt, partAt, nextAt, startOf, Handed, past, handed, walk}
+use Rattle.bundles.specs.Steps.{standsAt, stopAt, partAt, nextAt, Handed, past, handed, walk}
 use Rattle.bundles.specs.Promises.{Walking}
 use Rattle.bundles.specs.declared.Stop.{Stop}
 use Rattle.bundles.proofs.Steps.{stop-here, stop-past, part-past, next-past, starts}

@@ -1,15 +1,15 @@
 -- What is promised of bundles, each proved in proofs/, for every accepted input.
 use mathlib.Core.Path.{_≡_}
-use mathlib.Core.List.{List, _++_, map}
+use mathlib.Core.List.{List, _++_, map, List·Permᴰ}
 use Prim.Native.Nat.{ℕ, _+_, _*_, _<_}
-use lib.IntN.{ℤ, pos}
+use lib.IntN.{ℤ}
 use lib.ListN.{length, getD, replicate}
 use Rattle.refusals.specs.Outcomes.{done, outcome, Passes}
 use Rattle.parameters.specs.Sets.{ParameterSet}
 use Rattle.packing.specs.Promises.{Bytes}
 use Rattle.heads.specs.Heads.{headOf}
-use Rattle.bundles.specs.Bundles.{countOf, storedOf}
-use Rattle.bundles.specs.Calls.{readingParameters, readingCount, bundleChecks, readingChecks, readingStops, readingNumbers, writingBundle}
+use Rattle.bundles.specs.Bundles.{Entry, stopsOf, numbersOf, bundleOf, countOf, storedOf}
+use Rattle.bundles.specs.Calls.{entriesChecks, readingParameters, readingCount, bundleChecks, readingChecks, readingStops, readingNumbers, entriesGiven, writingBundle}
 use Rattle.bundles.specs.Steps.{startOf, past, handed, walk}
 
 -- Stops of 16 bits.
@@ -39,3 +39,15 @@ Written-bytes = (p : ParameterSet) (stops : List ℕ) (numbers : List ℤ) (room
 -- "walks its entries": from the start of a made reader on, the steps hand out exactly the entries of the bundle, in order, then that the end is past, and nothing else.
 abbrev pub Walking : Type 0
 Walking = (file : List ℕ) → Passes (bundleChecks file) → (n : ℕ) → walk file (startOf file) (countOf file + n) ≡ map handed (storedOf file) ++ replicate n past
+
+-- "entry order is open": the same entries in another order are refused alike, and what can be written in one order can be written in each.
+abbrev pub SameEntries : (es es′ : List Entry) → Type 0
+SameEntries es es′ = List·Permᴰ es es′
+
+abbrev pub Order-refused-alike : Type 0
+Order-refused-alike = (p : ParameterSet) (es es′ : List Entry) → SameEntries es es′ → outcome (entriesChecks p es) (tt {0}) ≡ outcome (entriesChecks p es′) tt
+
+abbrev pub Order-open : Type 0
+Order-open =
+    (p : ParameterSet) (stops : List ℕ) (numbers : List ℤ) (room : ℕ) (file : List ℕ) (es : List Entry) → writingBundle p stops numbers room ≡ done file → SameEntries (entriesGiven (p .N) stops numbers) es
+    → writingBundle p (stopsOf es) (numbersOf es) room ≡ done (bundleOf p es)

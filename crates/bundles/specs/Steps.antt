@@ -7,7 +7,7 @@ use lib.Dec.{leb}
 use lib.ListN.{length}
 use Rattle.refusals.specs.Outcomes.{Outcome, done, refused, outcome}
 use Rattle.heads.specs.Heads.{headOf}
-use Rattle.bundles.specs.Bundles.{entryLength, entryStart, stopLength, Stored, storedAt}
+use Rattle.bundles.specs.Bundles.{entryLength, entryStart, Stored, storedAt}
 use Rattle.bundles.specs.Calls.{bundleChecks}
 use Rattle.bundles.specs.declared.Stop.{Stop}
 use Rattle.bundles.specs.declared.Stop.the-variants.{Number, PastTheEnd}

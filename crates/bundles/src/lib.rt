@@ -1,7 +1,7 @@
 // Bundles, one file for a round: what a bundle is, what reading, walking and writing one give, both round trips, and its lengths.
 // It works on no bytes: reading, walking and writing are crates of their own.
 ghost use mathlib.Core.Path.{_≡_};
-ghost use Rattle.bundles.specs.Bundles.{entryLength, entryStart};
+ghost use Rattle.bundles.specs.Bundles.{entryLength};
 ghost use Rattle.bundles.specs.Calls.{rightLength};
 
 // What a step finds: an entry's stop number, or that no entry is left.

@@ -1,28 +1,24 @@
 -- Reading and writing undo each other.
-use mathlib.Core.Path.{_≡_, refl, sym, _∙_, ap, ap₂, subst}
-use mathlib.Core.Bool.{_&&_}
+use mathlib.Core.Path.{_≡_, _∙_, ap, ap₂, subst}
 use mathlib.Core.List.{List, [], _∷_, _++_}
-use Prim.Native.Nat.{ℕ, zero, suc, _+_, _*_, _/_, _%_, _≤_, _<_}
+use Prim.Native.Nat.{ℕ, suc, _+_, _*_, _%_, _<_}
 use native.Mathlib.Omega.{arith}
-use borrow.Author.Tests.{le-ltb}
-use lib.Dec.{T, eqb, eqb-refl, lit<}
+use lib.Dec.{T, lit<}
 use lib.IntN.{ℤ}
-use lib.ListN.{length, getD, take, drop, length-drop, take-append-drop}
+use lib.ListN.{length, drop, length-drop, take-append-drop}
 use lib.Seq.{getD-drop}
-use mir.Facts.{yes-and}
 use Rattle.refusals.specs.Outcomes.{done, Passes}
-use Rattle.refusals.proofs.Checks.{passed, holds-passed, none-left, done-holds, done-parts, done-all, passed-all, done-with}
-use Rattle.parameters.specs.Sets.{ParameterSet, set, parameterChecks}
-use Rattle.packing.specs.Messages.{listed}
+use Rattle.refusals.proofs.Checks.{holds-passed, done-holds, done-parts, done-all, passed-all, done-with}
+use Rattle.parameters.specs.Sets.{ParameterSet, parameterChecks}
 use Rattle.packing.specs.Promises.{Bytes}
 use Rattle.heads.specs.Kinds.{knownKind}
-use Rattle.heads.specs.Heads.{headLength, bytes16, number16, bits16, signed16, unsignedAt, signedAt, headOf, headBytes}
+use Rattle.heads.specs.Heads.{headLength, bytes16, bits16, headOf, headBytes}
 use Rattle.files.specs.Files.{numbersOf, bytesOf, fileOf}
-use Rattle.head_reading.specs.Calls.{marked, versionOne, headChecks, readingHead}
+use Rattle.head_reading.specs.Calls.{headChecks, readingHead}
 use Rattle.files.specs.Calls.{readingChecks, reading, givenChecks, writingChecks, writing}
 use Rattle.files.specs.Promises.{Reading-undoes-writing, Writing-undoes-reading, Written-bytes}
 use Rattle.heads.proofs.ArraysOfKinds.{kind-small}
-use Rattle.heads.proofs.Numbers.{Fits16, signed-bits, bits-signed, bits-lt, number-bytes, bytes-number, number-lt}
+use Rattle.heads.proofs.Numbers.{bits-lt}
 use Rattle.files.proofs.Lists.{Fitting, fitting-small, bytes-length, numbers-length, numbers-of-bytes, bytes-of-numbers}
 use Rattle.heads.proofs.PartsFit.{PartsFit, parts-fit}
 use Rattle.head_reading.proofs.HeadChecks.{Head, head-passed}

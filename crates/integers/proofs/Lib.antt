@@ -6,3 +6,4 @@ pub mod Floor
 pub mod Tests
 pub mod Machine
 pub mod Stores
+pub mod Orders

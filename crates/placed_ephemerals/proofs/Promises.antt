@@ -25,7 +25,8 @@ use Rattle.etru.specs.Calls.{sealingChecks, sealing}
 use Rattle.etru.specs.Demand3.{Ephemeral}
 use Rattle.placed_units.specs.declared.PlacedUnit.{PlacedUnit}
 use Rattle.placed_units.specs.PlacedUnits.{anyOutOfRange, anyPlaceTwice, spread}
-use Rattle.placed_units.proofs.Orders.{length-order, out-of-range-order, twice-order, spread-order}
+use Rattle.integers.proofs.Orders.{length-order}
+use Rattle.placed_units.proofs.Orders.{out-of-range-order, twice-order, spread-order}
 use Rattle.placed_units.proofs.PlacesOf.{placesBelow, places-length, places-once, places-in-range, places-spread}
 use Rattle.placed_ephemerals.specs.Calls.{placeChecks, spreadingChecks, spreading, placesSealingChecks, placesSealing}
 use Rattle.placed_ephemerals.specs.Promises.{Sealing-from-places, Other-length-refused, SameRecords, Spreading-order-open, Sealing-order-open, PlacedEphemeral, Spreading-accepts, Spreading-accepted, Sealing-accepts, Sealing-accepted, Every-ephemeral-has-places}

@@ -1,9 +1,8 @@
 -- `begin` meets its contract.
-use mathlib.Core.Path.{_≡_, sym, _∙_, ap}
+use mathlib.Core.Path.{sym, _∙_, ap}
 use mathlib.Core.List.{List}
 use Prim.Native.Nat.{ℕ}
 use borrow.Author.Needs.{needs}
-use Rattle.refusals.specs.Outcomes.{outcome}
 use Rattle.parameters.specs.Sets.{made}
 use Rattle.heads.specs.Heads.{headOf}
 use Rattle.bundles.specs.Calls.{bundleChecks}

@@ -1,13 +1,13 @@
 -- `read_bundle_head` meets its contract: the head and its parameters, then 7.
-use mathlib.Core.Path.{_≡_, sym, _∙_, ap, ap₂}
+use mathlib.Core.Path.{_≡_, sym, _∙_, ap}
 use mathlib.Core.Bool.{not}
-use mathlib.Core.List.{List, [], _∷_, _++_}
+use mathlib.Core.List.{List, [], _∷_}
 use Prim.Native.Nat.{ℕ}
 use borrow.Author.Needs.{needs}
 use lib.ListN.{length}
 use Rattle.refusals.specs.Outcomes.{Check, outcome, _if_}
 use Rattle.refusals.proofs.Checks.{passed-all, refused-first}
-use Rattle.parameters.specs.Sets.{ParameterSet, setOf, made}
+use Rattle.parameters.specs.Sets.{ParameterSet, made}
 use Rattle.heads.specs.Heads.{headOf}
 use Rattle.head_reading.specs.Calls.{readingHead}
 use Rattle.bundles.specs.Bundles.{countOf}

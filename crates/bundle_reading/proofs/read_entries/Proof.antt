@@ -1,20 +1,18 @@
 -- `read_entries` meets its contract: 7 for the outputs, then the entries; then both outputs are written.
-use mathlib.Core.Path.{_≡_, refl, sym, _∙_, ap}
+use mathlib.Core.Path.{_≡_, sym, _∙_, ap}
 use mathlib.Core.List.{List}
 use Prim.Native.Nat.{ℕ, _*_}
 use borrow.Author.Needs.{needs}
 use borrow.Author.Tests.{eq-eqb}
 use lib.Dec.{T}
-use lib.IntN.{ℤ}
 use lib.ListN.{length}
-use Rattle.refusals.specs.Outcomes.{Check, outcome, refused, Passes}
-use Rattle.refusals.specs.Numbers.{numberOf}
-use Rattle.refusals.proofs.Checks.{holds, holds-passed, call-refused, done-all, passed-all, gives-done, gives-refused}
+use Rattle.refusals.specs.Outcomes.{Check, outcome, Passes}
+use Rattle.refusals.proofs.Checks.{holds, holds-passed, call-refused, passed-all, gives-done, gives-refused}
 use Rattle.integers.proofs.Tests.{are-equal-2}
 use Rattle.parameters.specs.Sets.{ParameterSet, made}
 use Rattle.heads.specs.Heads.{headOf}
 use Rattle.unit_operands.proofs.Operands.{was-formed}
-use Rattle.bundles.specs.Bundles.{stopsOf, numbersOf, countOf, entriesOf}
+use Rattle.bundles.specs.Bundles.{countOf, entriesOf}
 use Rattle.bundles.specs.Calls.{rightOutputs, countChecks, entriesChecks, bundleChecks, outputChecks}
 use Rattle.bundles.proofs.MadeParameters.{made-accepted, made-refused}
 use Rattle.bundle_reading.proofs.read_entries.Statement.{statement}

@@ -1,11 +1,8 @@
 -- `seen_twice` meets its contract. The loop's invariant: the stops from entry k on are in the set, and none of them occurs twice.
-use mathlib.Core.Path.{_≡_, refl, sym, _∙_, ap, subst}
-use mathlib.Core.Bool.{Bool, true, false}
-use mathlib.Core.List.{List}
-use Prim.Native.Nat.{ℕ, _+_, _-_, _≤_, _<_}
+use mathlib.Core.Path.{_≡_, sym, _∙_, ap, subst}
+use Prim.Native.Nat.{ℕ, _-_, _≤_, _<_}
 use native.Mathlib.Omega.{arith}
-use borrow.Author.Needs.{needs}
-use lib.ListN.{length, getD, replicate}
+use lib.ListN.{length, getD}
 use Rattle.stop_sets.specs.Words.{has, with}
 use Rattle.stop_sets.proofs.Twice.{Seen, none-seen, Turn, turn-found, turn-keeps, turn-new, all-seen}
 use Rattle.bundles.specs.Bundles.{stopsOf, countOf, entriesOf}

@@ -2,17 +2,17 @@
 use mathlib.Core.Path.{_≡_, sym, _∙_, ap}
 use mathlib.Core.Bool.{Bool}
 use mathlib.Core.List.{List}
-use Prim.Native.Nat.{ℕ, _*_}
+use Prim.Native.Nat.{_*_}
 use borrow.Author.Needs.{needs}
-use lib.Dec.{T, eqb, eqb→eq}
+use lib.Dec.{eqb, eqb→eq}
 use lib.ListN.{length}
 use mir.Facts.{and-yes}
-use Rattle.refusals.specs.Outcomes.{Check, outcome}
+use Rattle.refusals.specs.Outcomes.{outcome}
 use Rattle.refusals.proofs.Checks.{holds, passed, refused-by, call-passed, call-refused}
 use Rattle.parameters.specs.Sets.{setOf}
 use Rattle.stop_sets.specs.Stops.{anyTwice}
 use Rattle.bundles.specs.Bundles.{Entry, stopsOf}
-use Rattle.bundles.specs.Calls.{rightLength, arraysChecks, entriesChecks, entriesGiven, rightGiven, givenChecks}
+use Rattle.bundles.specs.Calls.{rightLength, entriesChecks, entriesGiven, rightGiven, givenChecks}
 use Rattle.bundles.proofs.GivenEntries.{given-stops}
 use Rattle.bundle_writing.proofs.given_refusal.Statement.{statement}
 use Rattle.bundle_writing.proofs.given_refusal.Tie as tie

@@ -1,15 +1,13 @@
 -- `write_entries` meets its contract. The loop's invariant: the entries before entry k are written one after another.
-use mathlib.Core.Path.{_≡_, refl, sym, _∙_, ap, ap₂, subst}
+use mathlib.Core.Path.{_≡_, sym, _∙_, ap, ap₂, subst}
 use mathlib.Core.List.{List, [], _++_}
 use Prim.Native.Nat.{ℕ, _+_, _-_, _*_, _≤_, _<_}
 use native.Mathlib.Omega.{arith}
 use native.Mathlib.Nat.{mul-zero, mul-suc, mul-le-mul-left}
-use borrow.Author.Needs.{needs}
-use lib.IntN.{ℤ, pos}
+use lib.IntN.{ℤ}
 use lib.ListN.{length, getD, take, drop, length-append, length-drop}
-use lib.Seq.{length-take-le, take-all, getD-take, getD-drop}
-use Rattle.arrays.specs.Arrays.{Small}
-use Rattle.bundles.specs.Bundles.{Entry, entryIs, arrayOf, entryLength, entryBytes, entriesBytes}
+use lib.Seq.{length-take-le, take-all}
+use Rattle.bundles.specs.Bundles.{Entry, entryIs, entryLength, entryBytes, entriesBytes}
 use Rattle.bundles.specs.Calls.{entriesGiven}
 use Rattle.bundles.proofs.Lengths.{entry-length}
 use Rattle.bundles.proofs.GivenEntries.{Full, given-count, given-full, given-entry}

@@ -6,12 +6,12 @@ use native.Mathlib.Omega.{arith}
 use borrow.Author.Needs.{needs}
 use lib.ListN.{length, take, drop, length-append, length-drop}
 use lib.Seq.{sets, sets-eq, length-sets, take-at, drop-at, drop-drop}
-use Rattle.parameters.specs.Sets.{ParameterSet, setOf}
+use Rattle.parameters.specs.Sets.{setOf}
 use Rattle.heads.specs.Kinds.{arraysOf, bundleKind}
 use Rattle.heads.specs.Heads.{headLength, bytes16, headBytes}
 use Rattle.head_writing.proofs.WritingChecks.{head-written}
 use Rattle.files.proofs.Lists.{rest-taken, put-behind}
-use Rattle.bundles.specs.Bundles.{entriesBytes, bundleOf}
+use Rattle.bundles.specs.Bundles.{bundleOf}
 use Rattle.bundles.specs.Calls.{entriesGiven}
 use Rattle.bundles.proofs.Lengths.{start-is, entries-long}
 use Rattle.bundles.proofs.GivenEntries.{given-count}
