@@ -127,10 +127,10 @@ int main(void) {
                  {"etru_write, 3", write_sealed, 1},
                  {"etru_read_head", read_head, 1},
                  {"etru_read, 2", read_private, 12},
-                 {"etru_write_bundle", write_bundle, 20},
+                 {"etru_write_bundle", write_bundle, 12},
                  {"etru_read_bundle_head", read_bundle_head, 1},
-                 {"etru_read_bundle", read_bundle, 20},
-                 {"etru_begin_bundle", begin_bundle, 20},
+                 {"etru_read_bundle", read_bundle, 12},
+                 {"etru_begin_bundle", begin_bundle, 12},
                  {"etru_next_entry", next_entry, 1},
                  {"etru_open_entry", open_entry, 28},
                  {"etru_open_files", open_files, 72}};

@@ -20,8 +20,8 @@
 //   Nothing is allocated, and there is no global state: calls may run in several threads at once, as long as nobody
 //   changes what is lent to a call, or uses its outputs, before it returns. No call depends on an earlier one.
 //   Stack, at every N: etru_open_files at most 72 KiB, etru_seal_places 36 KiB, etru_open, etru_open_entry,
-//   etru_check_key and etru_spread_places 28 KiB, etru_read_bundle, etru_begin_bundle and etru_write_bundle 20 KiB,
-//   etru_seal and etru_read 12 KiB, each other function 1 KiB.
+//   etru_check_key and etru_spread_places 28 KiB, etru_seal, etru_read, etru_read_bundle, etru_begin_bundle and
+//   etru_write_bundle 12 KiB, each other function 1 KiB.
 //   Of the C library at most memcmp, memcpy, memmove and memset are needed.
 //
 // What is not promised
@@ -263,6 +263,7 @@ uint32_t etru_unpack(uint32_t n, const int32_t *m, size_t m_count, uint8_t *mess
 // A bundle is not made of arrays alone, and has calls of its own below.
 
 // The parameters of a file, from its head alone; they tell how long the file is, and how many numbers etru_read gives.
+// Of a bundle they do not: etru_read_bundle_head gives its count too.
 //   kind           the kind wanted, from 1 to 4
 //   file           the file, or its first 16 bytes or more: only those are looked at
 //   n, c, d, s, t  outputs: an accepted parameter set
@@ -304,8 +305,8 @@ uint32_t etru_write(uint32_t kind, uint32_t n, int32_t c, int32_t d, uint32_t s,
 //         }
 //     }
 //
-// Only etru_next_entry knows where an entry stands and in how many bytes its stop is stored, since later versions of
-// the file may have longer heads and wider stops.
+// Walk by etru_next_entry, and do not compute where an entry stands: later versions of the file may have longer heads
+// and wider stops. The lengths above are those of version 1.
 
 // The parameters and the count of a bundle, which tell what to lend to the other calls. The entries are not checked.
 //   file           the whole bundle and no more: ETRU_BUNDLE_FILE_BYTES(n, count) bytes
@@ -326,7 +327,7 @@ uint32_t etru_begin_bundle(const uint8_t *file, size_t file_count, size_t *at);
 // writes all three; returns 0 past the last entry, however often it is asked, and then writes nothing.
 //   file  the bundle, as it was lent to etru_begin_bundle
 //   at    input and output: where an entry stands, and then where the next one does
-//   stop  output: the entry's stop number
+//   stop  output: the entry's stop number, below 65,536
 //   part  output: where in the file its sealed array begins, which has ETRU_PART_BYTES(n) bytes
 // Any bytes and any `at` may be given, and nothing outside of the file is told: with N what bytes 6 and 7 hold, where a
 // missing byte is 0, an entry stands at `at` if the file has ETRU_ENTRY_BYTES(N) bytes or more from there on.
@@ -346,7 +347,7 @@ uint32_t etru_open_entry(uint32_t n, int32_t c, int32_t d, uint32_t s, uint32_t 
 
 // The stops and arrays of a bundle, all at once. With n and count from etru_read_bundle_head:
 //   file     the whole bundle and no more
-//   stops    output: count numbers, the stops in stored order
+//   stops    output: count numbers below 65,536, the stops in stored order
 //   numbers  output: ETRU_BUNDLE_FILE_NUMBERS(n, count) numbers, the arrays in the same order, one after another
 // Refusals in order: as for etru_read_bundle_head, with 7 also for stops or numbers; 25 if a stop occurs twice; 12 for
 //   each array in stored order.

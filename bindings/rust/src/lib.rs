@@ -16,8 +16,8 @@
 //! A call that returns an error leaves the outputs that it was lent as they came. No call panics,
 //! allocates or keeps anything, and any may be made from several threads at once. At every N
 //! [`open_files`] takes at most 72 KiB of stack, [`seal_places`] 36 KiB, [`open`], [`open_entry`],
-//! [`check_key`] and [`spread_places`] 28 KiB, [`Bundle::new`], [`read_bundle`] and
-//! [`write_bundle`] 20 KiB, [`seal`] and [`read`] 12 KiB and each other call 1 KiB.
+//! [`check_key`] and [`spread_places`] 28 KiB, [`seal`], [`read`], [`Bundle::new`], [`read_bundle`]
+//! and [`write_bundle`] 12 KiB and each other call 1 KiB.
 //!
 //! # Example
 //!
@@ -375,7 +375,8 @@ pub fn unpack(n: u32, m: &[i32], message: &mut [u8]) -> Result<(), Error> {
 }
 
 /// The parameters of a file of the wanted kind, from its head alone, the first 16 bytes: they tell
-/// how long the file is and how many numbers it holds ([`file_bytes`], [`file_numbers`]).
+/// how long the file is and how many numbers it holds ([`file_bytes`], [`file_numbers`]); of a
+/// bundle see [`read_bundle_head`].
 ///
 /// # Errors
 ///

@@ -31,7 +31,7 @@ use denote.Triple.Clauses.{Ended, Clauses, closing}
 use denote.Triple.Entry.{onEntry}
 use denote.Triple.Spec.{Meets}
 use denote.Triple.Walked.{Stays, stay-none, walkOf, goes-none, walked, walk-meets}
-use Rattle.walks.proofs.Steps.{tokens}
+use Rattle.hand_proofs.proofs.Steps.{tokens}
 use Rattle.parameters.proofs.Made as made
 use Rattle.parameters.proofs.Made.Laws as made-laws
 use Rattle.bundle_reader.specs.declared.Reader.{Reader}

@@ -8,7 +8,7 @@ use Rattle.refusals.specs.Outcomes.{refused, outcome, Passes}
 use Rattle.parameters.specs.Sets.{made}
 use Rattle.heads.specs.Heads.{headOf}
 use Rattle.bundles.specs.Bundles.{countOf, Stored, storedOf}
-use Rattle.bundles.specs.Calls.{bundleChecks}
+use Rattle.bundles.specs.Calls.{bundleChecks, makingReader}
 use Rattle.bundles.specs.Steps.{stopAt, partAt, nextAt, startOf}
 use Rattle.bundles.specs.declared.Stop.the-variants.{Number, PastTheEnd}
 use Rattle.bundle_reader.specs.declared.Reader.{Reader}
@@ -16,7 +16,7 @@ use Rattle.bundle_reader.specs.declared.Entry.{Entry}
 
 -- The contracts: of the reader that `make_reader` makes of some bytes, of the one that `next` makes of a reader, and of the entry that `current` hands out.
 abbrev pub MadeOf : RefT (List ℕ) → Reader → Type 0
-MadeOf bytes r = (r .bytes ≡ bytes) × (r .at ≡ startOf (now bytes)) × (made (r .made) ≡ outcome (bundleChecks (now bytes)) (headOf (now bytes)))
+MadeOf bytes r = (r .bytes ≡ bytes) × (r .at ≡ startOf (now bytes)) × (made (r .made) ≡ makingReader (now bytes))
 
 abbrev pub NextOf : Reader → Reader → Type 0
 NextOf reader r = (r .bytes ≡ reader .bytes) × (r .at ≡ nextAt (now (reader .bytes)) (reader .at)) × (r .made ≡ reader .made)
@@ -39,7 +39,7 @@ HandsOut s e = (e .stop ≡ Number (s .stop)) × (now (e .array) ≡ s .part)
 abbrev pub SaysPast : Entry → Type 0
 SaysPast e = (e .stop ≡ PastTheEnd) × (now (e .array) ≡ [])
 
--- Over every bundle that is accepted, the k-th entry of a walk is the k-th of the bundle, and every later one says that the end is past. (The default of `getD` is never reached.)
+-- Over every bundle that is accepted, the k-th entry of a walk is the k-th of the bundle, and every later one says that no entry is left. (The default of `getD` is never reached.)
 abbrev pub Walks-the-entries : Type 0
 Walks-the-entries =
     (bytes : RefT (List ℕ)) → Passes (bundleChecks (now bytes)) → (w : WalkOver bytes) (k : ℕ)

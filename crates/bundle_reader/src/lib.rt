@@ -4,7 +4,7 @@ ghost use mathlib.Core.Path.{_≡_};
 ghost use Rattle.refusals.specs.Outcomes.{outcome};
 ghost use Rattle.parameters.specs.Sets.{made};
 ghost use Rattle.heads.specs.Heads.{headOf};
-ghost use Rattle.bundles.specs.Calls.{bundleChecks};
+ghost use Rattle.bundles.specs.Calls.{makingReader};
 ghost use Rattle.bundles.specs.Steps.{stopAt, partAt, nextAt, startOf};
 use bundle_checks::begin;
 use bundle_steps::array_at;
@@ -20,14 +20,14 @@ pub struct Reader<'a> {
     pub made: Made,
 }
 
-// What a step hands out: a stop and the part of the bundle that is its sealed array, or that the end is past.
+// What a step hands out: a stop and the part of the bundle that is its sealed array, or that no entry is left.
 pub struct Entry<'a> {
     pub stop: Stop,
     pub array: &'a [u8],
 }
 
 pub fn make_reader<'a>(bytes: &'a [u8]) -> Reader<'a>
-    ensures { λ r. ⌜ (r .bytes ≡ bytes .entry) × (r .at ≡ startOf (now (bytes .entry))) × (made (r .made) ≡ outcome (bundleChecks (now (bytes .entry))) (headOf (now (bytes .entry)))) ⌝ }
+    ensures { λ r. ⌜ (r .bytes ≡ bytes .entry) × (r .at ≡ startOf (now (bytes .entry))) × (made (r .made) ≡ makingReader (now (bytes .entry))) ⌝ }
 {
     let start = begin(bytes);
     Reader {

@@ -1,6 +1,6 @@
 // The call that reads a bundle to two outputs: its stops, and the numbers of its arrays.
 // It works on lent bytes, and opens no entry. It ends with a result, or with the first refusal that applies, and then its outputs are as they came.
-// At every N it takes less than 20 KiB of stack.
+// At every N it takes less than 12 KiB of stack.
 ghost use mathlib.Core.Path.{_≡_};
 ghost use lib.ListN.{length};
 ghost use Rattle.refusals.specs.Outcomes.{outcome, number, Gives, Passes};
@@ -57,8 +57,10 @@ fn read_entries(p: Parameters, file: &[u8], stops: &mut [u32], numbers: &mut [i3
 
 // The stops of a bundle to stops, and its arrays, one after another in stored order, to numbers.
 pub fn read_bundle(file: &[u8], stops: &mut [u32], numbers: &mut [i32]) -> Answer
-    ensures { λ r. ⌜ Gives (readingStops (now (file .entry)) (length (now (stops .entry))) (length (now (numbers .entry)))) (number (answered r)) (now (stops .entry)) (now (stops .exit)) ⌝ }
-    ensures { λ r. ⌜ Gives (readingNumbers (now (file .entry)) (length (now (stops .entry))) (length (now (numbers .entry)))) (number (answered r)) (now (numbers .entry)) (now (numbers .exit)) ⌝ }
+    ensures { λ r. ⌜ Gives (readingStops (now (file .entry)) (length (now (stops .entry))) (length (now (numbers .entry))))
+        (number (answered r)) (now (stops .entry)) (now (stops .exit)) ⌝ }
+    ensures { λ r. ⌜ Gives (readingNumbers (now (file .entry)) (length (now (stops .entry))) (length (now (numbers .entry))))
+        (number (answered r)) (now (numbers .entry)) (now (numbers .exit)) ⌝ }
 {
     match read_bundle_head(file) {
         Made::Accepted(p) => read_entries(p, file, stops, numbers),

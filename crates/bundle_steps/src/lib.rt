@@ -23,7 +23,7 @@ fn stands_at(bytes: &[u8], at: usize) -> bool
     entry_length(n) <= bytes.len() - at
 }
 
-// The stop number of the entry at this place, or that the end is past.
+// The stop number of the entry at this place, or that no entry is left.
 pub fn stop_at(bytes: &[u8], at: usize) -> Stop
     ensures { λ r. ⌜ r ≡ stopAt (now (bytes .entry)) at ⌝ }
 {

@@ -47,7 +47,7 @@ fn seen_twice(file: &[u8], words: &mut [u32]) -> bool
     false
 }
 
-// The set takes 8 KiB of stack.
+// Whether a stop occurs twice. The set takes 8 KiB of stack.
 pub fn any_stop_twice(file: &[u8]) -> bool
     ensures { λ r. ⌜ r ≡ anyTwice (stopsOf (entriesOf (now (file .entry)))) ⌝ }
 {

@@ -36,13 +36,13 @@ fn write_entries(n: u32, stops: &[u16], numbers: &[i32], out: &mut [u8])
     ensures { λ _. ⌜ now (out .exit) ≡ entriesBytes (entriesGiven n (now (stops .entry)) (now (numbers .entry))) ⌝ }
 {
     let width = 2 * (n as usize);
-    let long = entry_length(n);
+    let entry_bytes = entry_length(n);
     let mut k = 0;
     while k < stops.len() {
         let from = width * k;
         let to = from + width;
-        let at = long * k;
-        let end = at + long;
+        let at = entry_bytes * k;
+        let end = at + entry_bytes;
         write_entry(stops[k], &numbers[from..to], &mut out[at..end]);
         k += 1;
     }

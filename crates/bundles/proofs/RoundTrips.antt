@@ -6,9 +6,10 @@ use native.Mathlib.Omega.{arith}
 use native.Mathlib.Nat.{mul-suc}
 use lib.Dec.{T, eqb, eqb→eq, lit<}
 use lib.IntN.{ℤ}
-use lib.ListN.{length, take, drop, length-drop, take-append-drop}
+use lib.ListN.{length, take, drop, length-drop, take-append-drop, getD, List·getD-eq-default}
 use lib.Seq.{getD-drop, drop-drop, length-take-le}
 use mir.Facts.{and-yes}
+use native.Mathlib.Decide.{decLt}
 use Rattle.integers.proofs.Tests.{equal-2}
 use Rattle.refusals.specs.Outcomes.{done, outcome, Passes}
 use Rattle.refusals.proofs.Checks.{holds-passed, none-left, done-holds, done-parts, done-all, passed-all, done-with, same-first}
@@ -18,7 +19,7 @@ use Rattle.packing.specs.Messages.{listed}
 use Rattle.packing.specs.Promises.{Bytes}
 use Rattle.heads.specs.Kinds.{arraysOf, bundleKind}
 use Rattle.heads.specs.Heads.{headLength, bytes16, unsignedAt, headOf, headBytes}
-use Rattle.heads.proofs.Numbers.{number-bytes}
+use Rattle.heads.proofs.Numbers.{number-bytes, number-lt}
 use Rattle.heads.proofs.PartsFit.{PartsFit, parts-fit}
 use Rattle.head_reading.specs.Calls.{headChecks}
 use Rattle.head_reading.proofs.HeadChecks.{head-passed}
@@ -26,11 +27,11 @@ use Rattle.files.specs.Files.{bytesOf}
 use Rattle.files.proofs.Lists.{numbers-length}
 use Rattle.files.proofs.RoundTrips.{bytes-of-list}
 use Rattle.files.proofs.HeadTrips.{written-head, headed-length, written-head-passed, bytes-append, headed-bytes, firsts, unsigned-bytes, read-head}
-use Rattle.bundles.specs.Bundles.{countLength, stopLength, longestBundle, Entry, stopsOf, numbersOf, entryLength, entryStart, entryBytes, entriesBytes, bundleOf, countOf, Stored, storedAt, storedFrom, storedOf, entryOf, entriesOf}
+use Rattle.bundles.specs.Bundles.{countLength, stopLength, longestBundle, Entry, stopsOf, numbersOf, entryLength, entryStart, entryBytes, entriesBytes, bundleOf, countOf, Stored, storedAt, storedFrom, storedOf, entryOf, entriesOf, stopIn}
 use Rattle.bundles.specs.Calls.{rightLength, entriesChecks, bundleHeadChecks, countChecks, readingParameters, readingCount, bundleChecks, rightOutputs, outputChecks, readingChecks, readingStops, readingNumbers, entriesGiven, rightGiven, writingChecks, writingBundle}
 use Rattle.bundles.specs.Promises.{Stops16, Reading-undoes-writing, Writing-undoes-reading, Reader-refuses-alike, Written-bytes}
 use Rattle.bundles.proofs.Lengths.{first-start, start-is, entry-length, entries-long, Right, right, is-right}
-use Rattle.bundles.proofs.Entries.{entries-count}
+use Rattle.bundles.proofs.Entries.{entries-count, stops-count, stop-is}
 use Rattle.bundles.proofs.Counted.{Counted, counted}
 use Rattle.bundles.proofs.EntryChecks.{entries-parts}
 use Rattle.bundles.proofs.StoredEntries.{FittingEntries, storedAs, front-entries, entries-bytes-length, written-entries, entries-again, read-entries}
@@ -225,6 +226,15 @@ module _ (file : List ℕ) (bytes : Bytes file) (c : Counted file) where
       (ap₂ _++_ (ap bytes16 (entries-count file) ∙ read-count) (read-rest ∙ sym (drop-drop countLength headLength file)) ∙ take-append-drop countLength (drop headLength file))
       ∙ take-append-drop headLength file
 
+-- the stops that are read have 16 bits
+read-stops-small : (file : List ℕ) → Bytes file → Stops16 (stopsOf (entriesOf file))
+unfolding stopIn unsignedAt
+read-stops-small file bytes k = go (decLt k (countOf file))
+  where
+    go : Dec (k < countOf file) → getD (stopsOf (entriesOf file)) k 0 < 65536
+    go (yes h) = subst (λ (n : ℕ). n < 65536) (sym (stop-is file k h)) (number-lt (bytes (entryStart (headOf file .N) k)) (bytes (suc (entryStart (headOf file .N) k))))
+    go (no h) = subst (λ (n : ℕ). n < 65536) (sym (List·getD-eq-default (stopsOf (entriesOf file)) 0 (omega (arith, h, stops-count file)))) (lit< tt)
+
 pub writing-undoes-reading : Writing-undoes-reading
 unfolding readingParameters readingStops readingNumbers readingChecks
 writing-undoes-reading file room room′ stops numbers bytes e f =
@@ -237,6 +247,7 @@ writing-undoes-reading file room room′ stops numbers bytes e f =
     let entries = done-holds 7 (rightOutputs (p .N) (countOf file) room room′) (entriesChecks p es) _ _ (k .1) .1 in
     let right-file : Right (p .N) (length es) (length file) = record { is = c .right-length .is ∙ ap (entryStart (p .N)) (sym (entries-count file)); short = c .right-length .short } in (
       done-with (countChecks file) p (k .0),
+      subst Stops16 (s .1) (read-stops-small file bytes),
       subst (λ (x : List ℕ). writingBundle p x numbers (length file) ≡ done file) (s .1)
           (subst (λ (x : List ℤ). writingBundle p (stopsOf es) x (length file) ≡ done file) (n .1)
           (full-written p es (read-full file c) (length file) (c .accepted) right-file entries ∙ ap done (read-bundle file bytes c))),

@@ -1,20 +1,22 @@
 -- The steps of a made reader hand out the entries of its bundle, and nothing else.
-use mathlib.Core.Path.{_≡_, refl, _∙_, ap, ap₂}
+use mathlib.Core.Path.{_≡_, refl, sym, _∙_, ap, ap₂}
 use mathlib.Core.Bool.{false}
 use mathlib.Core.List.{List, _∷_, _++_, map}
-use Prim.Native.Nat.{ℕ, zero, suc, _+_, _<_}
+use Prim.Native.Nat.{ℕ, zero, suc, _+_, _≤_, _<_}
 use native.Mathlib.Numerals.{add-one}
 use native.Mathlib.Omega.{arith}
+use native.Mathlib.Decide.{ℕ-discrete}
 use native.Mathlib.Nat.{suc-add, zero-add}
 use lib.ListN.{replicate}
 use Rattle.refusals.proofs.Checks.{done-all}
 use Rattle.heads.specs.Heads.{headOf}
 use Rattle.bundles.specs.Bundles.{entryLength, entryStart, countOf, storedAt, storedFrom, storedOf}
 use Rattle.bundles.specs.Calls.{countChecks, bundleChecks}
-use Rattle.bundles.specs.Steps.{standsAt, stopAt, partAt, nextAt, Handed, past, handed, walk}
-use Rattle.bundles.specs.Promises.{Walking}
+use Rattle.bundles.specs.Steps.{standsAt, stopAt, partAt, nextAt, startOf, Handed, past, handed, walk, placeAfter}
+use Rattle.bundles.specs.Promises.{Walking, Stepping}
 use Rattle.bundles.specs.declared.Stop.{Stop}
 use Rattle.bundles.proofs.Steps.{stop-here, stop-past, part-past, next-past, starts}
+use Rattle.bundles.proofs.Entries.{entry-stored}
 use Rattle.bundles.proofs.Counted.{Counted, counted, entry-stands, entry-part, next-entry, none-behind}
 use Rattle.bundles.proofs.Lengths.{next-start}
 
@@ -57,3 +59,37 @@ unfolding bundleChecks storedOf
 walking file e n =
     let c = counted file (done-all (countChecks file) _ _ _ e .0) in
     ap (λ (a : ℕ). walk file a (countOf file + n)) (starts file e) ∙ walk-from file c 0 (countOf file) n (zero-add (countOf file))
+
+-- ---- place by place
+
+module _ (file : List ℕ) (c : Counted file) where
+  places : (k : ℕ) → k ≤ countOf file → placeAfter file (entryStart (headOf file .N) 0) k ≡ entryStart (headOf file .N) k
+  unfolding placeAfter
+  places zero h = refl
+  places (suc k) h = ap (nextAt file) (places k (omega arith)) ∙ next-entry file c k (omega arith) ∙ ap (entryStart (headOf file .N)) (add-one k)
+
+  -- behind the last entry the place stays
+  stays : (k : ℕ) → countOf file ≤ k → placeAfter file (entryStart (headOf file .N) 0) k ≡ entryStart (headOf file .N) (countOf file)
+  unfolding placeAfter
+  stays zero h = let e : 0 ≡ countOf file = omega arith in ap (entryStart (headOf file .N)) e
+  stays (suc k) h = go (ℕ-discrete (suc k) (countOf file)) (stays k)
+    where
+      go : Dec (suc k ≡ countOf file) → (countOf file ≤ k → placeAfter file (entryStart (headOf file .N) 0) k ≡ entryStart (headOf file .N) (countOf file)) → placeAfter file (entryStart (headOf file .N) 0) (suc k) ≡ entryStart (headOf file .N) (countOf file)
+      go (yes e) r = places (suc k) (omega arith) ∙ ap (entryStart (headOf file .N)) e
+      go (no n) r = ap (nextAt file) (r (omega arith)) ∙ next-past file (entryStart (headOf file .N) (countOf file)) (none-behind file c)
+
+pub stepping : Stepping
+unfolding bundleChecks
+stepping file e k =
+    let N = headOf file .N in
+    let c = counted file (done-all (countChecks file) _ _ _ e .0) in
+    let place = placeAfter file (startOf file) k in
+    let begins : place ≡ placeAfter file (entryStart N 0) k = ap (λ (a : ℕ). placeAfter file a k) (starts file e) in (
+      λ h.
+          let at-entry : place ≡ entryStart N k = begins ∙ places file c k (omega (arith, h)) in
+          (at-entry, ap (standsAt file) at-entry ∙ entry-stands file c k h, ap (storedAt N file) at-entry ∙ sym (entry-stored file k h)),
+      λ h.
+          let at-end : place ≡ entryStart N (countOf file) = begins ∙ stays file c k h in
+          let none = ap (standsAt file) at-end ∙ none-behind file c in
+          (none, next-past file place none),
+    )

@@ -47,8 +47,11 @@ unfoldable pub entryStart : ℕ → ℕ → ℕ
 entryStart N k = headLength + countLength + entryLength N * k
 
 -- A bundle as bytes.
+abbrev pub stopBytes : ℕ → List ℕ
+stopBytes s = bytes16 s
+
 unfoldable pub entryBytes : Entry → List ℕ
-entryBytes e = bytes16 (e .stop) ++ bytesOf (e .array)
+entryBytes e = stopBytes (e .stop) ++ bytesOf (e .array)
 
 unfoldable pub entriesBytes : List Entry → List ℕ
 entriesBytes [] = []

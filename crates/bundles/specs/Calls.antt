@@ -45,6 +45,9 @@ readingCount file = outcome (countChecks file) (countOf file)
 unfoldable pub bundleChecks : List ℕ → List Check
 bundleChecks file = countChecks file ++ entriesChecks (headOf file) (entriesOf file)
 
+abbrev pub makingReader : List ℕ → Outcome ParameterSet
+makingReader file = outcome (bundleChecks file) (headOf file)
+
 -- Reading it to two outputs, a stop and 2N numbers for each entry: 7 for their lengths too.
 abbrev pub rightOutputs : (N count stops numbers : ℕ) → Bool
 rightOutputs N count stops numbers = eqb stops count && eqb numbers (2 * N * count)

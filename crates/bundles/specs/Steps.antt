@@ -45,6 +45,11 @@ past = record { stop = PastTheEnd; part = [] }
 abbrev pub handed : Stored → Handed
 handed e = record { stop = Number (e .stop); part = e .part }
 
+-- Where a reader is after k steps.
+unfoldable pub placeAfter : List ℕ → (at k : ℕ) → ℕ
+placeAfter file at zero = at
+placeAfter file at (suc k) = nextAt file (placeAfter file at k)
+
 unfoldable pub walk : List ℕ → (at n : ℕ) → List Handed
 walk file at zero = []
 walk file at (suc n) = record { stop = stopAt file at; part = partAt file at } ∷ walk file (nextAt file at) n

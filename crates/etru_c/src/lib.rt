@@ -1,7 +1,8 @@
 // The interface for C. Each function returns the documents' refusal number, 0 if nothing is refused, and writes to its outputs only then.
+// Only `etru_next_entry` refuses nothing, and returns whether there was an entry.
 // It decides nothing: each function hands its arguments on, and `include/etru.h` is its manual.
-// At every N `etru_open_files` takes at most 72 KiB of stack, `etru_seal_places` 36 KiB, `etru_open`, `etru_check_key` and `etru_spread_places` 28 KiB,
-// `etru_seal` and `etru_read` 12 KiB, and each other function 1 KiB.
+// At every N `etru_open_files` takes at most 72 KiB of stack, `etru_seal_places` 36 KiB, `etru_open`, `etru_open_entry`, `etru_check_key` and `etru_spread_places` 28 KiB,
+// `etru_seal`, `etru_read`, `etru_read_bundle`, `etru_begin_bundle` and `etru_write_bundle` 12 KiB, and each other function 1 KiB.
 ghost use mathlib.Core.Path.{_≡_};
 ghost use mathlib.Core.Bool.{cond};
 ghost use Prim.Native.Nat.{_+_};
@@ -19,9 +20,9 @@ ghost use Rattle.placed_ephemerals.specs.Calls.{spreading, placesSealing};
 ghost use Rattle.head_reading.specs.Calls.{readingHead};
 ghost use Rattle.files.specs.Calls.{reading, writing};
 ghost use Rattle.heads.specs.Heads.{headOf};
-ghost use Rattle.bundles.specs.Bundles.{stopLength, entryStart, storedAt};
+ghost use Rattle.bundles.specs.Bundles.{stopLength, storedAt};
 ghost use Rattle.bundles.specs.Calls.{bundleChecks, readingParameters, readingCount, readingStops, readingNumbers, writingBundle};
-ghost use Rattle.bundles.specs.Steps.{standsAt, nextAt};
+ghost use Rattle.bundles.specs.Steps.{standsAt, nextAt, startOf};
 ghost use Rattle.entry_opening.specs.Calls.{openingEntry};
 ghost use Rattle.opening.specs.Program.{lineWriting, lineLength};
 use parameters::Made;
@@ -255,7 +256,7 @@ pub extern "C" fn etru_read_bundle_head(
 // Makes a reader: every refusal of a bundle comes here. Where its first entry stands goes to at.
 #[no_mangle]
 pub extern "C" fn etru_begin_bundle(file: &[u8], at: &mut usize) -> u32
-    ensures { λ r. ⌜ Gives (outcome (bundleChecks (now (file .entry))) (entryStart (headOf (now (file .entry)) .N) 0)) r (now (at .entry)) (now (at .exit)) ⌝ }
+    ensures { λ r. ⌜ Gives (outcome (bundleChecks (now (file .entry))) (startOf (now (file .entry)))) r (now (at .entry)) (now (at .exit)) ⌝ }
 {
     let start = bundle_checks::begin(file);
     let first = start.at;
@@ -269,7 +270,8 @@ pub extern "C" fn etru_begin_bundle(file: &[u8], at: &mut usize) -> u32
     }
 }
 
-// A step of a reader: 1, and the entry's stop goes to stop, the place of its sealed array to part, and at moves on; 0 past the end, and nothing is written. It refuses nothing, so what it returns is no refusal.
+// A step of a reader. Where an entry stands at the place `at` it returns 1: its stop goes to stop, the place of its sealed array to part, and at moves on.
+// Past the end it returns 0 and writes nothing. What it returns is no refusal.
 #[no_mangle]
 pub extern "C" fn etru_next_entry(
     file: &[u8],

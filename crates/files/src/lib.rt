@@ -8,7 +8,7 @@ ghost use Rattle.files.specs.Calls.{rightLengths};
 use heads::HEAD_BYTES;
 use heads::kinds;
 
-// The lengths of a file of this kind, in bytes and in numbers of its arrays.
+// The lengths of a file of this kind, in bytes and in numbers of its arrays; of a kind that is not made of arrays alone, those of its head.
 pub fn file_bytes(kind: u32, n: u32) -> usize
     ensures { λ r. ⌜ r ≡ fileBytes kind n ⌝ }
 {

@@ -14,7 +14,7 @@ pub fn no_stops() -> [u32; 2048]
     [0u32; 2048]
 }
 
-// Adds a stop. Answers whether the set had it.
+// Adds a stop, and answers whether the set had it. A stop past the words is not added, and no set has it.
 pub fn add(words: &mut [u32], stop: u32) -> bool
     ensures { λ r. ⌜ (r ≡ has (now (words .entry)) stop) × (now (words .exit) ≡ with (now (words .entry)) stop) ⌝ }
 {

@@ -35,7 +35,7 @@ use denote.Triple.Spec.{tripleOf}
 use denote.Triple.Statement.{Contract, Triple}
 use denote.Triple.Table.{entered, cited}
 use denote.Triple.Walked.{says, ends-at}
-use Rattle.walks.proofs.Steps.{local, sets, calls-to}
+use Rattle.hand_proofs.proofs.Steps.{local, sets, calls-to}
 use Rattle.bundles.specs.Steps.{stopAt, partAt}
 use Rattle.bundles.specs.declared.Stop.{Stop}
 use Rattle.bundles.proofs.Stop as stop-type

@@ -35,7 +35,7 @@ use denote.Triple.Spec.{Meets, tripleOf}
 use denote.Triple.Statement.{Contract, Triple}
 use denote.Triple.Table.{entered, cited}
 use denote.Triple.Walked.{says, Stays, stay-none-slice, walkOf, goes-none-slice, ends-at, walked, walk-meets}
-use Rattle.walks.proofs.Steps.{tokens, local, sets, calls-to}
+use Rattle.hand_proofs.proofs.Steps.{tokens, local, sets, calls-to}
 use Rattle.refusals.specs.Outcomes.{outcome}
 use Rattle.parameters.specs.Sets.{made}
 use Rattle.heads.specs.Heads.{headOf}

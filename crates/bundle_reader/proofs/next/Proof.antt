@@ -32,7 +32,7 @@ use denote.Triple.Spec.{tripleOf}
 use denote.Triple.Statement.{Contract, Triple}
 use denote.Triple.Table.{entered, cited}
 use denote.Triple.Walked.{says, ends-at}
-use Rattle.walks.proofs.Steps.{local, sets, calls-to}
+use Rattle.hand_proofs.proofs.Steps.{local, sets, calls-to}
 use Rattle.bundles.specs.Steps.{nextAt}
 use Rattle.bundle_steps.proofs.next_at as next-at
 use Rattle.bundle_steps.proofs.next_at.Symbol as next-at-def

@@ -56,7 +56,7 @@ use Rattle.placed_units.specs.declared.PlacedUnit.{PlacedUnit}
 use Rattle.placed_units.specs.Layout.{numbersOf}
 use Rattle.placed_units.proofs.PlacedUnit as placed-unit
 use Rattle.placed_units.proofs.PlacedUnit.Laws as placed-unit-laws
-use Rattle.walks.proofs.Steps.{local, sets, tokens, calls-to}
+use Rattle.hand_proofs.proofs.Steps.{local, sets, tokens, calls-to}
 use Rattle.placed_units.proofs.Layouts.{numbers-length}
 use Rattle.place_records.proofs.Numbers.{no-numbers, one-more, all-there}
 use Rattle.place_records.proofs.zeros as zeros

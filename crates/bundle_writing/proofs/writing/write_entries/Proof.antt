@@ -17,10 +17,10 @@ use Rattle.bundle_writing.proofs.writing.write_entries.Statement.{state
 use Rattle.bundle_writing.proofs.writing.write_entries.Tie as tie
 
 abbrev Inv-loop : tie.InvT-loop
-Inv-loop n stops numbers out₀ width long k₀ out k = (k ≤ length stops) × (out ≡ entriesBytes (take k (entriesGiven n stops numbers)) ++ drop (entryLength n * k) out₀)
+Inv-loop n stops numbers out₀ width entry-bytes k₀ out k = (k ≤ length stops) × (out ≡ entriesBytes (take k (entriesGiven n stops numbers)) ++ drop (entryLength n * k) out₀)
 
 abbrev μ-loop : tie.MeasureT-loop
-μ-loop n stops numbers out₀ width long k₀ out k = length stops - k
+μ-loop n stops numbers out₀ width entry-bytes k₀ out k = length stops - k
 
 -- what is known in a turn
 module _ (c : tie.In-loop Inv-loop μ-loop) where
