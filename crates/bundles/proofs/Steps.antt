@@ -25,6 +25,20 @@ module _ (file : List ℕ) (at : ℕ) where
   unfolding standsAt
   ends-within e = leb-true (at + entryLength (headOf file .N)) (length file) e
 
+  -- past the end
+  module _ (e : standsAt file at ≡ false) where
+    pub stop-past : stopAt file at ≡ PastTheEnd
+    unfolding stopAt
+    stop-past = ap (λ (t : Bool). cond t (Number (storedAt (headOf file .N) file at .stop)) PastTheEnd) e
+
+    pub part-past : partAt file at ≡ []
+    unfolding partAt
+    part-past = ap (λ (t : Bool). cond t (storedAt (headOf file .N) file at .part) []) e
+
+    pub next-past : nextAt file at ≡ at
+    unfolding nextAt
+    next-past = ap (λ (t : Bool). cond t (at + entryLength (headOf file .N)) at) e
+
   -- what is handed out, and where the next entry stands
   module _ (e : standsAt file at ≡ true) where
     pub stop-here : stopAt file at ≡ Number (stopIn file at)
@@ -38,19 +52,6 @@ module _ (file : List ℕ) (at : ℕ) where
     pub next-here : nextAt file at ≡ at + entryLength (headOf file .N)
     unfolding nextAt
     next-here = ap (λ (t : Bool). cond t (at + entryLength (headOf file .N)) at) e
-
-  module _ (e : standsAt file at ≡ false) where
-    pub stop-past : stopAt file at ≡ PastTheEnd
-    unfolding stopAt
-    stop-past = ap (λ (t : Bool). cond t (Number (storedAt (headOf file .N) file at .stop)) PastTheEnd) e
-
-    pub part-past : partAt file at ≡ []
-    unfolding partAt
-    part-past = ap (λ (t : Bool). cond t (storedAt (headOf file .N) file at .part) []) e
-
-    pub next-past : nextAt file at ≡ at
-    unfolding nextAt
-    next-past = ap (λ (t : Bool). cond t (at + entryLength (headOf file .N)) at) e
 
 -- where a reader begins
 module _ (file : List ℕ) where
