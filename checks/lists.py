@@ -1,4 +1,5 @@
-"""Check that what is listed in several places is the same everywhere: refusals, kinds of file, records, calls, crates.
+"""Check that what is listed in several places is the same everywhere: refusals, kinds of file, records, calls, crates,
+must-fail edits; and that each edit fits the file it changes.
 
 Each list is taken from one place, where the library has it. Every other place that lists the same things, or says how
 many they are, is held against it. docs/ARCHITECTURE.md says how one is added.
@@ -384,6 +385,19 @@ def check_edits(report):
     named = set(re.findall(r"`([a-z0-9_]+)`", text(place)))
     for edit in sorted(set(edits)):
         report.check(edit in named, f"{place}: the edit {edit} is not named: name it in the row of what it shows")
+    for place in files("crates/*/must-fail/*.edit"):
+        edited = {}
+        for line in text(place).splitlines():
+            key, _, value = line.partition(": ")
+            if key == "file":
+                name = os.path.join(os.path.dirname(os.path.dirname(place)), value)
+                edited.setdefault(name, text(name))
+            elif key == "old":
+                old = value
+                count = edited[name].count(old)
+                report.check(count == 1, f"{place}: what it replaces stands {count} times in {name}: {old}")
+            elif key == "new":
+                edited[name] = edited[name].replace(old, value, 1)
 
 
 # ---- What is said of how many there are

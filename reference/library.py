@@ -58,10 +58,13 @@ ARGUMENTS = {
 
 def load():
     os.makedirs(os.path.dirname(SHARED), exist_ok=True)
+    # under a name of its own first: other comparisons, which run at the same time, load a whole file
+    linked = f"{SHARED}.{os.getpid()}"
     subprocess.run(
-        ["gcc", "-shared", "-o", SHARED, "-Wl,--whole-archive", ARCHIVE, "-Wl,--no-whole-archive"],
+        ["gcc", "-shared", "-o", linked, "-Wl,--whole-archive", ARCHIVE, "-Wl,--no-whole-archive"],
         check=True,
     )
+    os.replace(linked, SHARED)
     library = ctypes.CDLL(SHARED)
     for name, arguments in ARGUMENTS.items():
         function = getattr(library, name)
