@@ -10,9 +10,8 @@ use lib.IntN.{ℤ, pos, negsuc, natAbs, _-ℤ_}
 use lib.ListN.{length}
 use Rattle.eisenstein.specs.Values.{ℤ[ω], value, units, same, sameℤ}
 use Rattle.polynomials.specs.Polynomials.{coefficient, all, count, zerosAndUnits, unitsOnly, nonzero, among}
-use Rattle.polynomials.proofs.Members.{units-within}
+use Rattle.polynomials.proofs.Members.{all-same, units-within}
 use Rattle.arrays.specs.Arrays.{AllWithin, allWithin}
-use Rattle.arrays.proofs.Scans.{all-same}
 use Rattle.arrays.proofs.Sizes.{from-parts, within-parts, all-within}
 
 -- the parts of x are at most 1 apart

@@ -6,7 +6,7 @@ use lib.IntN.{ℤ}
 use lib.ListN.{length}
 use Rattle.refusals.specs.Outcomes.{Check, Outcome, outcome, _if_}
 use Rattle.parameters.specs.Sets.{ParameterSet, parameterChecks}
-use Rattle.polynomials.specs.Polynomials.{coefficient, unitsOnly, unitsOfSumZero, reducedQ, reduced2}
+use Rattle.polynomials.specs.Polynomials.{coefficient, unitsOnly, wholeTriples, reducedQ, reduced2}
 use Rattle.arrays.specs.Arrays.{full}
 use Rattle.array_sets.specs.declared.ArraySet.{ArraySet}
 use Rattle.array_sets.specs.declared.ArraySet.the-variants.{F, G, Phi, ReducedModulo2, ReducedModuloQ}
@@ -14,8 +14,8 @@ use Rattle.array_sets.specs.declared.ArraySet.the-variants.{F, G, Phi, R
 -- "Arrays", refusals 8 to 12: whether an array is in a set, and the refusal if it is not.
 abbrev pub inSet : ParameterSet → ArraySet → List ℤ → Bool
 inSet p F x = unitsOnly (p .N) (p .t) (coefficient x)
-inSet p G x = unitsOfSumZero (p .N) (p .s) (coefficient x)
-inSet p Phi x = unitsOfSumZero (p .N) (p .s) (coefficient x)
+inSet p G x = wholeTriples (p .N) (p .s) (coefficient x)
+inSet p Phi x = wholeTriples (p .N) (p .s) (coefficient x)
 inSet p ReducedModulo2 x = reduced2 (p .N) (coefficient x)
 inSet p ReducedModuloQ x = reducedQ (p .N) (p .q) (coefficient x)
 

@@ -12,8 +12,8 @@ use refusals::Answer;
 use refusals::Refusal;
 use set_tests::reduced_modulo_2;
 use set_tests::reduced_modulo_q;
-use set_tests::units_of_sum_zero;
 use set_tests::units_only;
+use set_tests::whole_triples;
 
 fn in_set(p: Parameters, which: ArraySet, x: &[i32]) -> bool
     requires { ⌜ Passes (parameterChecks (setOf p)) × (length (now x) ≡ 2 * p .n) ⌝ }
@@ -26,8 +26,8 @@ fn in_set(p: Parameters, which: ArraySet, x: &[i32]) -> bool
     let t = p.t;
     match which {
         ArraySet::F => units_only(x, n, t),
-        ArraySet::G => units_of_sum_zero(x, n, s),
-        ArraySet::Phi => units_of_sum_zero(x, n, s),
+        ArraySet::G => whole_triples(x, n, s),
+        ArraySet::Phi => whole_triples(x, n, s),
         ArraySet::ReducedModulo2 => reduced_modulo_2(x, n),
         ArraySet::ReducedModuloQ => reduced_modulo_q(x, n, c, d),
     }

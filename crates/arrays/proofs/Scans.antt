@@ -1,18 +1,13 @@
--- Loops over every index: `all` from the tests that were made, `sum` from the terms that were added.
+-- Loops over every index: `all` and `count` from the tests that were made, `sum` from the terms that were added.
 use mathlib.Core.Path.{_≡_, refl, sym, _∙_, ap, ap₂}
-use mathlib.Core.Bool.{Bool, true, false, _&&_}
+use mathlib.Core.Bool.{Bool, true, false, cond, _&&_}
 use Prim.Native.Nat.{ℕ, zero, suc, _+_, _≤_, _<_}
 use native.Mathlib.Omega.{arith}
 use native.Mathlib.Decide.{ℕ-discrete}
 use native.Mathlib.Numerals.{add-one}
 use Rattle.integers.proofs.Tests.{and-false}
 use Rattle.eisenstein.specs.Values.{𝟘, _+ω_}
-use Rattle.polynomials.specs.Polynomials.{Polynomial, sum, all}
-
-pub all-same : (n : ℕ) {t u : ℕ → Bool} → ((i : ℕ) → i < n → t i ≡ u i) → all n t ≡ all n u
-unfolding all
-all-same zero h = refl
-all-same (suc n) h = ap₂ _&&_ (all-same n (λ i p. h i (omega arith))) (h n (omega arith))
+use Rattle.polynomials.specs.Polynomials.{Polynomial, sum, all, count}
 
 all-fails : (n i : ℕ) (t : ℕ → Bool) → i < n → t i ≡ false → all n t ≡ false
 unfolding all
@@ -59,6 +54,14 @@ module _ {t : ℕ → Bool} {n : ℕ} where
 
   pub scan-all : {i : ℕ} → Scanned t n i → n ≤ i → true ≡ all n t
   scan-all {i} h p = sym (h .passed) ∙ ap (λ (k : ℕ). all k t) (omega arith)
+
+pub count-none : (t : ℕ → Bool) → 0 ≡ count 0 t
+unfolding count
+count-none t = refl
+
+pub count-more : (t : ℕ → Bool) (i : ℕ) (b : Bool) → t i ≡ b → count (i + 1) t ≡ count i t + cond b 1 0
+unfolding count
+count-more t i b e = ap (λ (n : ℕ). count n t) (add-one i) ∙ ap (λ (c : Bool). count i t + cond c 1 0) e
 
 pub sum-none : (x : Polynomial) → 𝟘 ≡ sum 0 x
 unfolding sum

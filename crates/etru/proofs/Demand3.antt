@@ -13,9 +13,9 @@ use Rattle.refusals.specs.Outcomes.{Outcome, done}
 use Rattle.refusals.proofs.Checks.{passed, holds-passed, none-left, done-holds, done-value, done-all, passed-all}
 use Rattle.eisenstein.specs.Values.{𝟘, _+ω_, Congruent}
 use Rattle.parameters.specs.Sets.{ParameterSet, bound, parameterChecks}
-use Rattle.polynomials.specs.Polynomials.{Polynomial, coefficient, array, convolution, one, unitsOnly, unitsOfSumZero, reducedQ, reduced2, congruentQ, congruent2}
+use Rattle.polynomials.specs.Polynomials.{Polynomial, coefficient, array, convolution, one, unitsOnly, wholeTriples, reducedQ, reduced2, congruentQ, congruent2}
 use Rattle.polynomials.proofs.Arrays.{array-length}
-use Rattle.polynomials.proofs.Members.{sum-zero-units}
+use Rattle.polynomials.proofs.Members.{triples-units}
 use Rattle.polynomials.proofs.Congruences.{congruentQ-at, congruent2-at, remainders-reduced, remainders-congruent}
 use Rattle.arrays.specs.Arrays.{full}
 use Rattle.packing.specs.Messages.{messageBytes, packed, unpacked, spareBitSet}
@@ -35,7 +35,7 @@ pub record Key (p : ParameterSet) (f F2 Fq g h : List ℤ) : Type 0 where
   pub F2-full : length F2 ≡ 2 * p .N
   pub f-units : T (unitsOnly (p .N) (p .t) (coefficient f))
   pub F2-reduced : T (reduced2 (p .N) (coefficient F2))
-  pub g-units : T (unitsOfSumZero (p .N) (p .s) (coefficient g))
+  pub g-units : T (wholeTriples (p .N) (p .s) (coefficient g))
   pub inverse-2 : T (congruent2 (p .N) (convolution (p .N) (coefficient f) (coefficient F2)) one)
   pub inverse-q : T (congruentQ (p .N) (p .q) (convolution (p .N) (coefficient f) (coefficient Fq)) one)
   pub h-is : array (p .N) (publicKey p (coefficient Fq) (coefficient g)) ≡ h
@@ -48,7 +48,7 @@ accepted-key {p} {f} {F2} {Fq} {g} {h} a =
     let k8 = done-holds 8 (unitsOnly (p .N) (p .t) (coefficient f)) _ _ _ (k7 .1) in
     let k11 = done-holds 11 (reduced2 (p .N) (coefficient F2)) _ _ _ (k8 .1) in
     let k12 = done-holds 12 (reducedQ (p .N) (p .q) (coefficient Fq)) _ _ _ (k11 .1) in
-    let k9 = done-holds 9 (unitsOfSumZero (p .N) (p .s) (coefficient g)) _ _ _ (k12 .1) in
+    let k9 = done-holds 9 (wholeTriples (p .N) (p .s) (coefficient g)) _ _ _ (k12 .1) in
     let k13 = done-holds 13 (congruent2 (p .N) (convolution (p .N) (coefficient f) (coefficient F2)) one) _ _ _ (k9 .1) in
     let k14 = done-holds 14 (congruentQ (p .N) (p .q) (convolution (p .N) (coefficient f) (coefficient Fq)) one) _ _ _ (k13 .1) in
     let l = and-yes (full (p .N) (length f)) (full (p .N) (length F2) && (full (p .N) (length Fq) && (full (p .N) (length g) && full (p .N) (2 * p .N)))) (k7 .0) in
@@ -128,7 +128,7 @@ module _ {p : ParameterSet} {f F2 Fq g h : List ℤ} (accepted : AcceptedKey p f
         ∙ holds-passed 7 (eqb (length message) (messageBytes (p .N)) && (full (p .N) (length h) && (full (p .N) (length φ) && full (p .N) (2 * p .N)))) _ _
         (equal-4 {d = 2 * p .N} (msg .full) h-full (ephemeral .full) refl)
         ∙ holds-passed 12 (reducedQ (p .N) (p .q) (coefficient h)) _ _ h-reduced
-        ∙ holds-passed 10 (unitsOfSumZero (p .N) (p .s) (coefficient φ)) _ _ (ephemeral .in-set)
+        ∙ holds-passed 10 (wholeTriples (p .N) (p .s) (coefficient φ)) _ _ (ephemeral .in-set)
         ∙ passed 15 _ _ (is-unset (spareBitSet (p .N) message) (msg .no-spare))
         ∙ none-left _
 
@@ -138,8 +138,8 @@ module _ {p : ParameterSet} {f F2 Fq g h : List ℤ} (accepted : AcceptedKey p f
       modulus = q≢0;
       bound = key .parameters .below;
       f-units = key .f-units;
-      g-units = sum-zero-units (p .N) (p .s) (coefficient g) (key .g-units);
-      φ-units = sum-zero-units (p .N) (p .s) (coefficient φ) (ephemeral .in-set);
+      g-units = triples-units (p .N) (p .s) (coefficient g) (key .g-units);
+      φ-units = triples-units (p .N) (p .s) (coefficient φ) (ephemeral .in-set);
       m-reduced = packed-reduced (p .N) message;
       inverse-2 = congruent2-at (p .N) (convolution (p .N) (coefficient f) (coefficient F2)) one (key .inverse-2);
       inverse-q = congruentQ-at (p .N) (p .q) (convolution (p .N) (coefficient f) (coefficient Fq)) one q≢0 (key .inverse-q);

@@ -11,8 +11,8 @@ use Rattle.refusals.specs.Outcomes.{Check, outcome, Passes}
 use Rattle.refusals.proofs.Checks.{done-holds, done-all}
 use Rattle.parameters.specs.Sets.{ParameterSet, parameterChecks}
 use Rattle.parameters.proofs.AcceptedParameters.{Accepted, accepted-parameters, modulus-nonzero}
-use Rattle.polynomials.specs.Polynomials.{coefficient, unitsOnly, unitsOfSumZero, reducedQ, reduced2}
-use Rattle.polynomials.proofs.Members.{sum-zero-units}
+use Rattle.polynomials.specs.Polynomials.{coefficient, unitsOnly, wholeTriples, reducedQ, reduced2}
+use Rattle.polynomials.proofs.Members.{triples-units}
 use Rattle.arrays.specs.Arrays.{full, Small}
 use Rattle.arrays.proofs.Sizes.{AllUnits, reducedQ-small, units-all, reduced2-all}
 use Rattle.packing.specs.Messages.{messageBytes}
@@ -47,12 +47,12 @@ module _ (p : ParameterSet) where
       let a = accepted-parameters p e6 in
       let k7 = done-holds 7 (eqb (length message) (messageBytes N) && (full N (length h) && (full N (length φ) && full N room))) _ _ _ e7 in
       let k12 = done-holds 12 (reducedQ N q (coefficient h)) _ _ _ (k7 .1) in
-      let k10 = done-holds 10 (unitsOfSumZero N s (coefficient φ)) _ _ _ (k12 .1) in
+      let k10 = done-holds 10 (wholeTriples N s (coefficient φ)) _ _ _ (k12 .1) in
       let l = are-equal-4 (length message) (messageBytes N) (length h) (2 * N) (length φ) (2 * N) room (2 * N) (k7 .0) in
       record {
         accepted = a;
         h-ready = remainders a h (l .1) (k12 .0);
-        φ-units = record { long = l .2; units = units-all N s (coefficient φ) (sum-zero-units N s (coefficient φ) (k10 .0)) };
+        φ-units = record { long = l .2; units = units-all N s (coefficient φ) (triples-units N s (coefficient φ) (k10 .0)) };
         room-is = l .3;
       }
 
@@ -92,7 +92,7 @@ module _ (p : ParameterSet) where
     pub f-units : T (unitsOnly N t (coefficient f))
     pub F2-reduced : T (reduced2 N (coefficient F2))
     pub Fq-reduced : T (reducedQ N q (coefficient Fq))
-    pub g-sum-zero : T (unitsOfSumZero N s (coefficient g))
+    pub g-whole : T (wholeTriples N s (coefficient g))
 
   pub key-arrays-passed : (f F2 Fq g : List ℤ) (room : ℕ) → Passes (parameterChecks p ++ keyArrayChecks p f F2 Fq g room) → InSets f F2 Fq g room
   key-arrays-passed f F2 Fq g room d =
@@ -101,7 +101,7 @@ module _ (p : ParameterSet) where
       let k8 = done-holds 8 (unitsOnly N t (coefficient f)) _ _ _ (k7 .1) in
       let k11 = done-holds 11 (reduced2 N (coefficient F2)) _ _ _ (k8 .1) in
       let k12 = done-holds 12 (reducedQ N q (coefficient Fq)) _ _ _ (k11 .1) in
-      let k9 = done-holds 9 (unitsOfSumZero N s (coefficient g)) _ _ _ (k12 .1) in
+      let k9 = done-holds 9 (wholeTriples N s (coefficient g)) _ _ _ (k12 .1) in
       let l = are-equal-5 (length f) (2 * N) (length F2) (2 * N) (length Fq) (2 * N) (length g) (2 * N) room (2 * N) (k7 .0) in
       record {
         passes = e6;
@@ -113,7 +113,7 @@ module _ (p : ParameterSet) where
         f-units = k8 .0;
         F2-reduced = k11 .0;
         Fq-reduced = k12 .0;
-        g-sum-zero = k9 .0;
+        g-whole = k9 .0;
       }
 
   -- the inverses are asked last
@@ -134,6 +134,6 @@ module _ (p : ParameterSet) where
       record {
         accepted = a;
         Fq-ready = remainders a Fq (k .Fq-full) (k .Fq-reduced);
-        g-units = record { long = k .g-full; units = units-all N s (coefficient g) (sum-zero-units N s (coefficient g) (k .g-sum-zero)) };
+        g-units = record { long = k .g-full; units = units-all N s (coefficient g) (triples-units N s (coefficient g) (k .g-whole)) };
         room-is = k .room-is;
       }

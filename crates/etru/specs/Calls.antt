@@ -7,7 +7,7 @@ use lib.IntN.{ℤ}
 use lib.ListN.{length}
 use Rattle.refusals.specs.Outcomes.{Check, Outcome, outcome, _if_}
 use Rattle.parameters.specs.Sets.{ParameterSet, parameterChecks}
-use Rattle.polynomials.specs.Polynomials.{coefficient, array, convolution, one, unitsOnly, unitsOfSumZero, reducedQ, reduced2, congruentQ, congruent2}
+use Rattle.polynomials.specs.Polynomials.{coefficient, array, convolution, one, unitsOnly, wholeTriples, reducedQ, reduced2, congruentQ, congruent2}
 use Rattle.arrays.specs.Arrays.{full}
 use Rattle.packing.specs.Messages.{messageBytes, packed, unpacked, spareBitSet}
 use Rattle.etru.specs.Scheme.{publicKey, sealed, opened}
@@ -21,7 +21,7 @@ keyArrayChecks p f F2 Fq g room =
     ∷ 8 if not (unitsOnly (p .N) (p .t) (coefficient f))
     ∷ 11 if not (reduced2 (p .N) (coefficient F2))
     ∷ 12 if not (reducedQ (p .N) (p .q) (coefficient Fq))
-    ∷ 9 if not (unitsOfSumZero (p .N) (p .s) (coefficient g))
+    ∷ 9 if not (wholeTriples (p .N) (p .s) (coefficient g))
     ∷ []
 
 -- Its last two: "f × F2 not 1 modulo 2", "f × Fq not 1 modulo q".
@@ -44,7 +44,7 @@ unfoldable pub sealingChecks : ParameterSet → (h φ : List ℤ) → (message :
 sealingChecks p h φ message room =
     7 if not (eqb (length message) (messageBytes (p .N)) && (full (p .N) (length h) && (full (p .N) (length φ) && full (p .N) room)))
     ∷ 12 if not (reducedQ (p .N) (p .q) (coefficient h))
-    ∷ 10 if not (unitsOfSumZero (p .N) (p .s) (coefficient φ))
+    ∷ 10 if not (wholeTriples (p .N) (p .s) (coefficient φ))
     ∷ 15 if spareBitSet (p .N) message
     ∷ []
 

@@ -8,7 +8,7 @@ use lib.IntN.{ℤ}
 use lib.ListN.{length}
 use Rattle.refusals.specs.Outcomes.{done}
 use Rattle.parameters.specs.Sets.{ParameterSet}
-use Rattle.polynomials.specs.Polynomials.{coefficient, unitsOfSumZero}
+use Rattle.polynomials.specs.Polynomials.{coefficient, wholeTriples}
 use Rattle.packing.specs.Messages.{messageBytes, unpacked, spareBitSet}
 use Rattle.packing.specs.Promises.{Bytes}
 use Rattle.etru.specs.Scheme.{opened}
@@ -21,7 +21,7 @@ pub record AcceptedKey (p : ParameterSet) (f F2 Fq g h : List ℤ) : Type 0 wher
 -- "any φ of its set"
 pub record Ephemeral (p : ParameterSet) (φ : List ℤ) : Type 0 where
   pub full : length φ ≡ 2 * p .N
-  pub in-set : T (unitsOfSumZero (p .N) (p .s) (coefficient φ))
+  pub in-set : T (wholeTriples (p .N) (p .s) (coefficient φ))
 
 -- "any message: N/4 bytes, rounded up, with the spare bits zero"
 pub record Message (p : ParameterSet) (message : List ℕ) : Type 0 where

@@ -13,7 +13,7 @@ use Rattle.refusals.proofs.Checks.{done-holds}
 use Rattle.parameters.specs.Sets.{ParameterSet, parameterChecks}
 use Rattle.parameters.proofs.AcceptedParameters.{Accepted, accepted-parameters, modulus-nonzero}
 use Rattle.polynomials.specs.Polynomials.{coefficient}
-use Rattle.polynomials.proofs.Members.{sum-zero-units}
+use Rattle.polynomials.proofs.Members.{triples-units}
 use Rattle.arrays.specs.Arrays.{Small}
 use Rattle.array_sets.specs.Sets.{inSet, notInSet}
 use Rattle.array_sets.specs.declared.ArraySet.{ArraySet}
@@ -26,8 +26,8 @@ use Rattle.files.proofs.SetChecks.{first-judged}
 
 set-small : (p : ParameterSet) → Accepted p → (a : ArraySet) (x : List ℤ) → length x ≡ 2 * p .N → T (inSet p a x) → Small x
 set-small p ok F x e t = units-small (p .N) (p .t) x e t
-set-small p ok G x e t = units-small (p .N) (p .s) x e (sum-zero-units (p .N) (p .s) (coefficient x) t)
-set-small p ok Phi x e t = units-small (p .N) (p .s) x e (sum-zero-units (p .N) (p .s) (coefficient x) t)
+set-small p ok G x e t = units-small (p .N) (p .s) x e (triples-units (p .N) (p .s) (coefficient x) t)
+set-small p ok Phi x e t = units-small (p .N) (p .s) x e (triples-units (p .N) (p .s) (coefficient x) t)
 set-small p ok ReducedModulo2 x e t = reduced2-small (p .N) x e t
 set-small p ok ReducedModuloQ x e t = reducedQ-small (p .N) (p .q) x (ok .q-small) (modulus-nonzero p ok) e t
 

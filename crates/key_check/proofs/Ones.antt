@@ -15,7 +15,7 @@ use Rattle.parameters.specs.Sets.{ParameterSet, bound}
 use Rattle.parameters.proofs.AcceptedParameters.{Accepted, modulus-nonzero}
 use Rattle.polynomials.specs.Polynomials.{Polynomial, coefficient, array, all, one, congruentQ, congruent2}
 use Rattle.polynomials.proofs.Arrays.{coefficient-array}
-use Rattle.arrays.proofs.Scans.{all-same}
+use Rattle.polynomials.proofs.Members.{all-same}
 
 abbrev either : Bool → ℤ[ω]
 either t = cond t (value (pos 1) (pos 0)) 𝟘

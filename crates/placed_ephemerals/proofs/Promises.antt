@@ -14,9 +14,9 @@ use Rattle.refusals.specs.Outcomes.{Check, done, unless, outcome, _if_}
 use Rattle.refusals.proofs.Checks.{refused-by, passed, holds-passed, fails-refused, none-left, passed-all, same-first, done-all, done-passed, done-holds, done-value}
 use Rattle.eisenstein.specs.Values.{units}
 use Rattle.parameters.specs.Sets.{ParameterSet, parameterChecks}
-use Rattle.polynomials.specs.Polynomials.{Polynomial, coefficient, array, count, nonzero, among, unitsOnly, unitsOfSumZero, reducedQ}
+use Rattle.polynomials.specs.Polynomials.{Polynomial, coefficient, array, count, nonzero, among, unitsOnly, wholeTriples, reducedQ}
 use Rattle.polynomials.proofs.Arrays.{coefficient-array, array-length, array-same, array-coefficients}
-use Rattle.polynomials.proofs.Members.{all-at, units-count, sum-zero-units}
+use Rattle.polynomials.proofs.Members.{all-at, units-count, triples-units, triples-same}
 use Rattle.arrays.specs.Arrays.{full}
 use Rattle.packing.specs.Messages.{messageBytes, packed, spareBitSet}
 use Rattle.packing.proofs.RoundTrips.{is-unset}
@@ -30,7 +30,7 @@ use Rattle.placed_units.proofs.Orders.{out-of-range-order, twice-order, spread-
 use Rattle.placed_units.proofs.PlacesOf.{placesBelow, places-length, places-once, places-in-range, places-spread}
 use Rattle.placed_ephemerals.specs.Calls.{placeChecks, spreadingChecks, spreading, placesSealingChecks, placesSealing}
 use Rattle.placed_ephemerals.specs.Promises.{Sealing-from-places, Other-length-refused, SameRecords, Spreading-order-open, Sealing-order-open, PlacedEphemeral, Spreading-accepts, Spreading-accepted, Sealing-accepts, Sealing-accepted, Every-ephemeral-has-places}
-use Rattle.placed_ephemerals.proofs.Agreeing.{same-set, same-sealed}
+use Rattle.placed_ephemerals.proofs.Agreeing.{same-sealed}
 
 -- ---- outcomes
 
@@ -45,8 +45,8 @@ behind n t cs ds a b e = ap (unless t n) e
 agrees : (N : ℕ) (x : Polynomial) (i : ℕ) → i < N → x i ≡ coefficient (array N x) i
 agrees N x i l = sym (coefficient-array N x i l)
 
-pub array-in-set : (N s : ℕ) (x : Polynomial) → unitsOfSumZero N s x ≡ unitsOfSumZero N s (coefficient (array N x))
-array-in-set N s x = same-set N (agrees N x) s
+pub array-in-set : (N s : ℕ) (x : Polynomial) → wholeTriples N s x ≡ wholeTriples N s (coefficient (array N x))
+array-in-set N s x = triples-same N (agrees N x) s
 
 pub sealing-from-places : Sealing-from-places
 unfolding placesSealing placesSealingChecks sealing sealingChecks
@@ -82,7 +82,7 @@ other-length-refused p h places message room other = (both (eqb (length message)
 module _ {A : Type 0} (p : ParameterSet) (later : List Check) (value-of : Polynomial → A) (same-value : (x y : Polynomial) → ((i : ℕ) → i < p .N → x i ≡ y i) → value-of x ≡ value-of y)
     {places places′ : List PlacedUnit} (order : SameRecords places places′) where
   abbrev from-10 : List PlacedUnit → List Check
-  from-10 l = 10 if not (unitsOfSumZero (p .N) (p .s) (spread l)) ∷ later
+  from-10 l = 10 if not (wholeTriples (p .N) (p .s) (spread l)) ∷ later
 
   same-from-24 : outcome (24 if anyPlaceTwice places ∷ from-10 places) (value-of (spread places)) ≡ outcome (24 if anyPlaceTwice places′ ∷ from-10 places′) (value-of (spread places′))
   same-from-24 = go (anyPlaceTwice places) refl
@@ -92,7 +92,7 @@ module _ {A : Type 0} (p : ParameterSet) (later : List Check) (value-of : Polyno
       go false e =
           let agree : (i : ℕ) → i < p .N → spread places i ≡ spread places′ i = λ i l. spread-order order e i in
           passed 24 _ _ e
-          ∙ ap₂ (λ (t : Bool) (a : A). outcome (10 if not t ∷ later) a) (same-set (p .N) agree (p .s)) (same-value (spread places) (spread places′) agree)
+          ∙ ap₂ (λ (t : Bool) (a : A). outcome (10 if not t ∷ later) a) (triples-same (p .N) agree (p .s)) (same-value (spread places) (spread places′) agree)
           ∙ sym (passed 24 _ _ (sym (twice-order order) ∙ e))
 
   same-from-23 : outcome (placeChecks p places ++ later) (value-of (spread places)) ≡ outcome (placeChecks p places′ ++ later) (value-of (spread places′))
@@ -132,7 +132,7 @@ spreading-accepts p places accepted ok =
     ∙ holds-passed 7 (eqb (length places) (p .s) && full (p .N) (2 * p .N)) _ _ (equal-2 {b = 2 * p .N} (ok .spreadable .records) refl)
     ∙ passed 23 _ _ (is-unset (anyOutOfRange (p .N) places) (ok .spreadable .in-range))
     ∙ passed 24 _ _ (is-unset (anyPlaceTwice places) (ok .spreadable .once))
-    ∙ holds-passed 10 (unitsOfSumZero (p .N) (p .s) (spread places)) _ _ (ok .in-set)
+    ∙ holds-passed 10 (wholeTriples (p .N) (p .s) (spread places)) _ _ (ok .in-set)
     ∙ none-left _
 
 pub sealing-accepts : Sealing-accepts
@@ -144,7 +144,7 @@ sealing-accepts p h places message accepted h-full h-reduced ok msg =
     ∙ holds-passed 12 (reducedQ (p .N) (p .q) (coefficient h)) _ _ h-reduced
     ∙ passed 23 _ _ (is-unset (anyOutOfRange (p .N) places) (ok .spreadable .in-range))
     ∙ passed 24 _ _ (is-unset (anyPlaceTwice places) (ok .spreadable .once))
-    ∙ holds-passed 10 (unitsOfSumZero (p .N) (p .s) (spread places)) _ _ (ok .in-set)
+    ∙ holds-passed 10 (wholeTriples (p .N) (p .s) (spread places)) _ _ (ok .in-set)
     ∙ passed 15 _ _ (is-unset (spareBitSet (p .N) message) (msg .no-spare))
     ∙ none-left _
 
@@ -153,7 +153,7 @@ passed-places : {A : Type 0} (p : ParameterSet) (places : List PlacedUnit) (late
 passed-places p places later a b s-records e =
     let c23 = done-passed 23 (anyOutOfRange (p .N) places) _ a b e in
     let c24 = done-passed 24 (anyPlaceTwice places) _ a b (c23 .1) in
-    let c10 = done-holds 10 (unitsOfSumZero (p .N) (p .s) (spread places)) _ a b (c24 .1) in
+    let c10 = done-holds 10 (wholeTriples (p .N) (p .s) (spread places)) _ a b (c24 .1) in
     (record { spreadable = record { records = s-records; in-range = holds-not _ (c23 .0); once = holds-not _ (c24 .0) }; in-set = c10 .0 }, c10 .1)
 
 pub spreading-accepted : Spreading-accepted
@@ -186,7 +186,7 @@ every-ephemeral-has-places p φ ephemeral = record {
       in-range = holds-not _ (places-in-range x (p .N) each (p .N) (omega arith));
       once = holds-not _ (places-once x (p .N));
     };
-    in-set = subst T (sym (same-set (p .N) agree (p .s))) (ephemeral .in-set);
+    in-set = subst T (sym (triples-same (p .N) agree (p .s))) (ephemeral .in-set);
   };
   spreads = array-same (p .N) agree ∙ array-coefficients (p .N) φ (ephemeral .full);
 }
@@ -198,7 +198,7 @@ every-ephemeral-has-places p φ ephemeral = record {
     places = placesBelow x (p .N)
 
     units-there : T (unitsOnly (p .N) (p .s) x)
-    units-there = sum-zero-units (p .N) (p .s) x (ephemeral .in-set)
+    units-there = triples-units (p .N) (p .s) x (ephemeral .in-set)
 
     each : (i : ℕ) → i < p .N → T (not (nonzero (x i)) || among units (x i))
     each = each-coefficient (p .N) (p .s) x units-there

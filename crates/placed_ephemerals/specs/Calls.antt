@@ -7,7 +7,7 @@ use lib.IntN.{ℤ}
 use lib.ListN.{length}
 use Rattle.refusals.specs.Outcomes.{Check, Outcome, outcome, _if_}
 use Rattle.parameters.specs.Sets.{ParameterSet, parameterChecks}
-use Rattle.polynomials.specs.Polynomials.{coefficient, array, unitsOfSumZero, reducedQ}
+use Rattle.polynomials.specs.Polynomials.{coefficient, array, wholeTriples, reducedQ}
 use Rattle.arrays.specs.Arrays.{full}
 use Rattle.packing.specs.Messages.{messageBytes, packed, spareBitSet}
 use Rattle.etru.specs.Scheme.{sealed}
@@ -16,12 +16,12 @@ use Rattle.placed_units.specs.PlacedUnits.{anyOutOfRange, anyPlaceTwice, spread
 use Rattle.placed_units.specs.Layout.{recordsFrom}
 
 -- "23 if a place is N or more or a unit number is above 5, 24 if a place occurs twice, both after h's check and before 10, with 23 first over the whole list."
--- "The zero-sum rule stays under 10."
+-- "The zero-sum rule stays under 10": wish 3's narrower set has it.
 abbrev pub placeChecks : ParameterSet → List PlacedUnit → List Check
 placeChecks p places =
     23 if anyOutOfRange (p .N) places
     ∷ 24 if anyPlaceTwice places
-    ∷ 10 if not (unitsOfSumZero (p .N) (p .s) (spread places))
+    ∷ 10 if not (wholeTriples (p .N) (p .s) (spread places))
     ∷ []
 
 -- A list to its array. "The list has s records, else refusal 7"

@@ -9,7 +9,7 @@ use lib.IntN.{ℤ}
 use lib.ListN.{length}
 use Rattle.refusals.specs.Outcomes.{done, outcome, _if_, Passes}
 use Rattle.parameters.specs.Sets.{ParameterSet, parameterChecks}
-use Rattle.polynomials.specs.Polynomials.{coefficient, array, unitsOfSumZero, reducedQ}
+use Rattle.polynomials.specs.Polynomials.{coefficient, array, wholeTriples, reducedQ}
 use Rattle.packing.specs.Messages.{packed}
 use Rattle.etru.specs.Scheme.{sealed}
 use Rattle.etru.specs.Calls.{sealing}
@@ -45,7 +45,7 @@ Sealing-order-open = (p : ParameterSet) (h : List ℤ) (places places′ : List 
 -- A list that no check refuses.
 pub record PlacedEphemeral (p : ParameterSet) (places : List PlacedUnit) : Type 0 where
   pub spreadable : Spreadable p places
-  pub in-set : T (unitsOfSumZero (p .N) (p .s) (spread places))
+  pub in-set : T (wholeTriples (p .N) (p .s) (spread places))
 
 -- Both calls accept these lists, sealing with every h that is reduced, and no others; and the array of an accepted list is in the set of φ.
 abbrev pub Spreading-accepts : Type 0

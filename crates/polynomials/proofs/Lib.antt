@@ -8,3 +8,4 @@ pub mod Arrays
 pub mod Members
 pub mod Congruences
 pub mod Promises
+pub mod WholeTriples

@@ -1,20 +1,20 @@
 -- What membership in the sets of f, g and φ tells of a polynomial, and being reduced: each coefficient's norm is at most 1, and a product with such a polynomial is bounded by its count of units.
-use mathlib.Core.Path.{_≡_, refl, sym, _∙_, ap, subst}
+use mathlib.Core.Path.{_≡_, refl, sym, ap, ap₂, subst}
 use mathlib.Core.Bool.{Bool, true, false, not, cond, _&&_, _||_}
 use mathlib.Core.List.{List, [], _∷_}
 use mathlib.Core.Logic.{⊎-elim}
-use Prim.Native.Nat.{ℕ, zero, suc, _*_, _<_}
+use Prim.Native.Nat.{ℕ, zero, suc, _+_, _*_, _<_}
 use native.Mathlib.Omega.{arith}
 use native.Mathlib.Decide.{ℕ-discrete}
 use native.Mathlib.Nat.{one-mul, zero-mul}
 use borrow.Author.Tests.{not-false}
 use lib.Dec.{T, eqb, eqb→eq, leb, leb→le}
 use mir.Facts.{and-yes, yes-and, or-yes}
-use Rattle.eisenstein.specs.Values.{ℤ[ω], 𝟘, units, norm, _*ω_, same, sameℤ}
+use Rattle.eisenstein.specs.Values.{ℤ[ω], 𝟘, units, unit, norm, _*ω_, same, sameℤ}
 use Rattle.eisenstein.specs.Reduction.{modQ, mod2, bit}
 use Rattle.eisenstein.proofs.Equality.{same-yes, same-true}
 use Rattle.eisenstein.proofs.Modulo2.{by-bits, mod2-by-bits}
-use Rattle.polynomials.specs.Polynomials.{Polynomial, all, count, nonzero, among, unitsOnly, unitsOfSumZero, reducedQ, reduced2, sum, convolution}
+use Rattle.polynomials.specs.Polynomials.{Polynomial, all, count, nonzero, among, unitsOnly, unitCount, equallyMany, wholeTriples, reducedQ, reduced2, convolution}
 use Rattle.polynomials.proofs.Rings.{Group}
 use Rattle.polynomials.proofs.Sums.{total}
 use Rattle.polynomials.proofs.Convolutions.{conv, conv-single}
@@ -52,23 +52,47 @@ unfolding all
 at-all zero t h = tt
 at-all (suc n) t h = yes-and (all n t) (t n) (at-all n t (λ i l. h i (omega arith))) (h n (omega arith))
 
+pub all-same : (n : ℕ) {t u : ℕ → Bool} → ((i : ℕ) → i < n → t i ≡ u i) → all n t ≡ all n u
+unfolding all
+all-same zero h = refl
+all-same (suc n) h = ap₂ _&&_ (all-same n (λ i p. h i (omega arith))) (h n (omega arith))
+
+count-same : (n : ℕ) {t u : ℕ → Bool} → ((i : ℕ) → i < n → t i ≡ u i) → count n t ≡ count n u
+unfolding count
+count-same zero h = refl
+count-same (suc n) h = ap₂ (λ (k : ℕ) (t : Bool). k + cond t 1 0) (count-same n (λ i l. h i (omega arith))) (h n (omega arith))
+
 -- ---- units
 
-ones : List ℤ[ω] → Bool
-ones [] = true
-ones (u ∷ us) = eqb (norm u) 1 && ones us
+-- a test of each value in a list
+abbrev pub each : (ℤ[ω] → Bool) → List ℤ[ω] → Bool
+each p [] = true
+each p (u ∷ us) = p u && each p us
 
-among-norm : (us : List ℤ[ω]) (x : ℤ[ω]) → T (ones us) → T (among us x) → norm x ≡ 1
-unfolding among ones
-among-norm [] x h t = absurd t
-among-norm (u ∷ us) x h t =
-    ⊎-elim (λ e. ap norm (same-yes x u e) ∙ eqb→eq (norm u) 1 (and-yes (eqb (norm u) 1) (ones us) h .0))
-    (λ m. among-norm us x (and-yes (eqb (norm u) 1) (ones us) h .1) m)
-    (or-yes (same x u) (among us x) t)
+among-each : (p : ℤ[ω] → Bool) (us : List ℤ[ω]) (x : ℤ[ω]) → T (each p us) → T (among us x) → T (p x)
+unfolding among
+among-each p [] x h t = absurd t
+among-each p (u ∷ us) x h t =
+    let k = and-yes (p u) (each p us) h in
+    ⊎-elim (λ e. subst (λ (y : ℤ[ω]). T (p y)) (sym (same-yes x u e)) (k .0)) (λ m. among-each p us x (k .1) m) (or-yes (same x u) (among us x) t)
+
+zero-same : (x : ℤ[ω]) → T (not (nonzero x)) → T (same x 𝟘)
+unfolding nonzero
+zero-same x t = go (same x 𝟘) t
+  where
+    go : (b : Bool) → T (not (not b)) → T b
+    go true t = tt
+    go false t = absurd t
+
+-- what zero and the six units pass is passed by every coefficient that is zero or a unit
+pub seven-pass : (p : ℤ[ω] → Bool) → T (each p (𝟘 ∷ units)) → (x : ℤ[ω]) → T (not (nonzero x) || among units x) → T (p x)
+seven-pass p h x t =
+    let k = and-yes (p 𝟘) (each p units) h in
+    ⊎-elim (λ z. subst (λ (y : ℤ[ω]). T (p y)) (sym (same-yes x 𝟘 (zero-same x z))) (k .0)) (λ m. among-each p units x (k .1) m) (or-yes (not (nonzero x)) (among units x) t)
 
 pub unit-norm : (x : ℤ[ω]) → T (among units x) → norm x ≡ 1
-unfolding ones norm
-unit-norm x t = among-norm units x tt t
+unfolding norm
+unit-norm x t = eqb→eq (norm x) 1 (among-each (λ y. eqb (norm y) 1) units x tt t)
 
 -- a coefficient of such a polynomial: zero, or a unit
 zero-or-unit : (x : ℤ[ω]) (c : Bool) → nonzero x ≡ c → T (not c || among units x) → Within (cond c 1 0) x
@@ -94,9 +118,28 @@ pub units-count : (N t : ℕ) (x : Polynomial) → T (unitsOnly N t x) → count
 unfolding unitsOnly
 units-count N t x h = eqb→eq _ t (and-yes (eqb (count N (λ i. nonzero (x i))) t) _ h .0)
 
-pub sum-zero-units : (N s : ℕ) (x : Polynomial) → T (unitsOfSumZero N s x) → T (unitsOnly N s x)
-unfolding unitsOfSumZero
-sum-zero-units N s x h = and-yes (unitsOnly N s x) (same (sum N x) 𝟘) h .0
+pub triples-units : (N s : ℕ) (x : Polynomial) → T (wholeTriples N s x) → T (unitsOnly N s x)
+unfolding wholeTriples
+triples-units N s x h = and-yes (unitsOnly N s x) _ h .0
+
+-- polynomials that agree below N are of the same set
+module _ (N : ℕ) {x y : Polynomial} (agree : (i : ℕ) → i < N → x i ≡ y i) where
+  units-same : (t : ℕ) → unitsOnly N t x ≡ unitsOnly N t y
+  unfolding unitsOnly
+  units-same t =
+      ap₂ _&&_ (ap (λ (k : ℕ). eqb k t) (count-same N (λ i l. ap nonzero (agree i l)))) (all-same N (λ i l. ap (λ (z : ℤ[ω]). not (nonzero z) || among units z) (agree i l)))
+
+  unit-count-same : (k : ℕ) → unitCount N x k ≡ unitCount N y k
+  unfolding unitCount
+  unit-count-same k = count-same N (λ i l. ap (λ (z : ℤ[ω]). same z (unit k)) (agree i l))
+
+  equally-many-same : (j k l : ℕ) → equallyMany N x j k l ≡ equallyMany N y j k l
+  unfolding equallyMany
+  equally-many-same j k l = ap₂ _&&_ (ap₂ eqb (unit-count-same j) (unit-count-same k)) (ap₂ eqb (unit-count-same k) (unit-count-same l))
+
+  pub triples-same : (s : ℕ) → wholeTriples N s x ≡ wholeTriples N s y
+  unfolding wholeTriples
+  triples-same s = ap₂ _&&_ (units-same s) (ap₂ _&&_ (equally-many-same 0 2 4) (equally-many-same 1 3 5))
 
 -- ---- reduced: each coefficient is its own remainder
 

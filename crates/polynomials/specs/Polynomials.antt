@@ -5,7 +5,7 @@ use Prim.Native.Nat.{ℕ, zero, suc, _+_, _*_, _%_}
 use lib.Dec.{eqb}
 use lib.IntN.{ℤ, pos}
 use lib.ListN.{getD}
-use Rattle.eisenstein.specs.Values.{ℤ[ω], value, 𝟘, units, _+ω_, _*ω_, same}
+use Rattle.eisenstein.specs.Values.{ℤ[ω], value, 𝟘, units, unit, _+ω_, _*ω_, same}
 use Rattle.eisenstein.specs.Reduction.{modQ, mod2}
 
 -- A polynomial by its coefficients: coefficient i for each i below N.
@@ -56,9 +56,16 @@ zerosAndUnits N x = all N (λ i. not (nonzero (x i)) || among units (x i))
 unfoldable pub unitsOnly : ℕ → ℕ → Polynomial → Bool
 unitsOnly N t x = eqb (count N (λ i. nonzero (x i))) t && zerosAndUnits N x
 
--- "exactly s nonzero coefficients, each a unit, whose sum is zero"
-unfoldable pub unitsOfSumZero : ℕ → ℕ → Polynomial → Bool
-unitsOfSumZero N s x = unitsOnly N s x && same (sum N x) 𝟘
+-- How many coefficients are unit k.
+unfoldable pub unitCount : ℕ → Polynomial → (k : ℕ) → ℕ
+unitCount N x k = count N (λ i. same (x i) (unit k))
+
+unfoldable pub equallyMany : ℕ → Polynomial → (j k l : ℕ) → Bool
+equallyMany N x j k l = eqb (unitCount N x j) (unitCount N x k) && eqb (unitCount N x k) (unitCount N x l)
+
+-- The set of g and φ. Document 02, wish 3: "equally many of units 0, 2 and 4, and equally many of units 1, 3 and 5"
+unfoldable pub wholeTriples : ℕ → ℕ → Polynomial → Bool
+wholeTriples N s x = unitsOnly N s x && (equallyMany N x 0 2 4 && equallyMany N x 1 3 5)
 
 -- Reduced modulo q, and modulo 2: each coefficient is its own remainder.
 unfoldable pub reducedQ : ℕ → ℤ[ω] → Polynomial → Bool

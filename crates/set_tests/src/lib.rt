@@ -1,4 +1,4 @@
-// The tests of an array that its sets are made of: so many units, units of sum zero, and being reduced modulo 2 and modulo q.
+// The tests of an array that its sets are made of: so many units, units in whole triples, and being reduced modulo 2 and modulo q.
 // It knows no parameter set, and refuses nothing.
 // No function relies on a length, on N or on a modulus.
 ghost use mathlib.Core.Path.{_≡_};
@@ -7,7 +7,7 @@ ghost use lib.Dec.{leb};
 ghost use lib.ListN.{length};
 ghost use Rattle.eisenstein.specs.Values.{value, 𝟘, same};
 ghost use Rattle.eisenstein.specs.Calls.{beyond};
-ghost use Rattle.polynomials.specs.Polynomials.{coefficient, unitsOnly, unitsOfSumZero, reducedQ, reduced2};
+ghost use Rattle.polynomials.specs.Polynomials.{coefficient, unitsOnly, wholeTriples, reducedQ, reduced2};
 ghost use Rattle.arrays.specs.Arrays.{full};
 
 mod scans;
@@ -26,12 +26,12 @@ pub fn units_only(x: &[i32], n: u32, t: u32) -> bool
     false
 }
 
-// The same, where the sum of the coefficients is zero as well.
-pub fn units_of_sum_zero(x: &[i32], n: u32, s: u32) -> bool
-    ensures { λ r. ⌜ r ≡ (leb n 1024 && (full n (length (now (x .entry))) && unitsOfSumZero n s (coefficient (now (x .entry))))) ⌝ }
+// The same of s, with equally many of units 0, 2 and 4, and equally many of units 1, 3 and 5.
+pub fn whole_triples(x: &[i32], n: u32, s: u32) -> bool
+    ensures { λ r. ⌜ r ≡ (leb n 1024 && (full n (length (now (x .entry))) && wholeTriples n s (coefficient (now (x .entry))))) ⌝ }
 {
     if units_only(x, n, s) {
-        return scans::sum_is_zero(x, n as usize);
+        return scans::in_triples(x, n as usize);
     }
     false
 }

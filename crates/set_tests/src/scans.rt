@@ -1,10 +1,11 @@
 // The loops over an array's coefficients, and the test of one coefficient in each.
 ghost use mathlib.Core.Path.{_≡_};
+ghost use mathlib.Core.Bool.{_&&_};
 ghost use Prim.Native.Nat.{_+_, _*_, _^_, _<_};
 ghost use lib.ListN.{length};
-ghost use Rattle.eisenstein.specs.Values.{value, 𝟘, same};
+ghost use Rattle.eisenstein.specs.Values.{value, same};
 ghost use Rattle.eisenstein.specs.Reduction.{modQ, mod2};
-ghost use Rattle.polynomials.specs.Polynomials.{coefficient, sum, count, nonzero, reducedQ, reduced2};
+ghost use Rattle.polynomials.specs.Polynomials.{coefficient, count, nonzero, unitCount, equallyMany, reducedQ, reduced2};
 ghost use Rattle.arrays.specs.Conditions.{Modulus};
 use arrays::at;
 use arrays::equal;
@@ -19,6 +20,15 @@ fn nonzero_at(x: &[i32], i: usize) -> bool
         return b != 0;
     }
     true
+}
+
+fn equal_at(x: &[i32], i: usize, a: i32, b: i32) -> bool
+    requires { ⌜ (i < 2 ^ 32) × (2 * i + 1 < length (now x)) ⌝ }
+    ensures { λ r. ⌜ r ≡ same (coefficient (now (x .entry)) i) (value a b) ⌝ }
+{
+    let xa = x[2 * i];
+    let xb = x[2 * i + 1];
+    (xa == a) & (xb == b)
 }
 
 fn own_remainder_q_at(x: &[i32], i: usize, c: i32, d: i32) -> bool
@@ -57,19 +67,45 @@ pub(crate) fn count_nonzero(x: &[i32], n: usize) -> usize
     k
 }
 
-pub(crate) fn sum_is_zero(x: &[i32], n: usize) -> bool
-    requires { ⌜ n < 2 ^ 32 ⌝ }
-    ensures { λ r. ⌜ r ≡ same (sum n (coefficient (now (x .entry)))) 𝟘 ⌝ }
+// How many coefficients are unit k.
+fn count_unit(x: &[i32], n: usize, k: usize) -> usize
+    requires { ⌜ (n < 2 ^ 32) × (length (now x) ≡ 2 * n) × (k < 6) ⌝ }
+    ensures { λ r. ⌜ r ≡ unitCount n (coefficient (now (x .entry))) k ⌝ }
 {
-    let mut a: i64 = 0;
-    let mut b: i64 = 0;
+    let u = eisenstein::unit(k);
+    let a = u.a;
+    let b = u.b;
+    let mut found: usize = 0;
     let mut i = 0;
     while i < n {
-        a += at(x, 2 * i);
-        b += at(x, 2 * i + 1);
+        if equal_at(x, i, a, b) {
+            found += 1;
+        }
         i += 1;
     }
-    equal(a, b, 0, 0)
+    found
+}
+
+fn equally_many(x: &[i32], n: usize, j: usize, k: usize, l: usize) -> bool
+    requires { ⌜ (n < 2 ^ 32) × (length (now x) ≡ 2 * n) × (j < 6) × (k < 6) × (l < 6) ⌝ }
+    ensures { λ r. ⌜ r ≡ equallyMany n (coefficient (now (x .entry))) j k l ⌝ }
+{
+    let found = count_unit(x, n, k);
+    if count_unit(x, n, j) == found {
+        return found == count_unit(x, n, l);
+    }
+    false
+}
+
+// "equally many of units 0, 2 and 4, and equally many of units 1, 3 and 5"
+pub(crate) fn in_triples(x: &[i32], n: usize) -> bool
+    requires { ⌜ (n < 2 ^ 32) × (length (now x) ≡ 2 * n) ⌝ }
+    ensures { λ r. ⌜ r ≡ (equallyMany n (coefficient (now (x .entry))) 0 2 4 && equallyMany n (coefficient (now (x .entry))) 1 3 5) ⌝ }
+{
+    if equally_many(x, n, 0, 2, 4) {
+        return equally_many(x, n, 1, 3, 5);
+    }
+    false
 }
 
 pub(crate) fn all_reduced_modulo_q(x: &[i32], n: usize, c: i32, d: i32) -> bool

@@ -1,15 +1,13 @@
 -- The sums after each unit, and what they come to.
 use mathlib.Core.Path.{_≡_, refl, sym, _∙_, ap, ap₂, subst}
-use mathlib.Core.Bool.{Bool, true, false, not, _&&_, _||_}
-use mathlib.Core.List.{List, [], _∷_}
-use mathlib.Core.Logic.{⊎-elim}
+use mathlib.Core.Bool.{true, not, _||_}
+use mathlib.Core.List.{List}
 use Prim.Native.Nat.{ℕ, zero, suc, _+_, _-_, _*_, _^_, _≤_, _<_}
 use native.Mathlib.Omega.{arith}
 use native.Mathlib.Nat.{le-trans}
 use lib.Dec.{T, lit≤}
 use lib.IntN.{ℤ, natAbs, _-ℤ_}
 use lib.ListN.{length}
-use mir.Facts.{and-yes, or-yes}
 use Rattle.integers.proofs.Absolute.{natAbs--}
 use Rattle.eisenstein.specs.Values.{ℤ[ω], value, 𝟘, units, unit, same, sameℤ, _+ω_, _*ω_}
 use Rattle.eisenstein.proofs.Solver.{ringω, parts, _≐_, _⊞_, _⊠_, conω}
@@ -18,7 +16,7 @@ use Rattle.eisenstein.proofs.Equality.{same-yes}
 use Rattle.polynomials.specs.Polynomials.{Polynomial, coefficient, array, sum, zerosAndUnits, nonzero, among}
 use Rattle.polynomials.proofs.Arrays.{array-length, coefficient-array, array-by-coefficients}
 use Rattle.polynomials.proofs.Eisenstein.{sum-same}
-use Rattle.polynomials.proofs.Members.{all-at}
+use Rattle.polynomials.proofs.Members.{all-at, seven-pass}
 use Rattle.arrays.proofs.Sizes.{from-parts}
 use Rattle.arrays.specs.Arrays.{AllWithin, Zeros}
 use Rattle.unit_products.specs.Rotations.{ζ, run, runs, is, PartsBelow, Summed}
@@ -94,29 +92,9 @@ weights-none (suc n) x r = zero-more (r n) ∙ ap (λ (z : ℤ[ω]). z +ω 𝟘 
 
 -- ---- after all six, every zero and every unit counts for itself
 
-each : (ℤ[ω] → Bool) → List ℤ[ω] → Bool
-each p [] = true
-each p (u ∷ us) = p u && each p us
-
-among-each : (p : ℤ[ω] → Bool) (us : List ℤ[ω]) (x : ℤ[ω]) → T (each p us) → T (among us x) → T (p x)
-unfolding among each
-among-each p [] x h t = absurd t
-among-each p (u ∷ us) x h t =
-    let k = and-yes (p u) (each p us) h in
-    ⊎-elim (λ e. subst (λ (y : ℤ[ω]). T (p y)) (sym (same-yes x u e)) (k .0)) (λ m. among-each p us x (k .1) m) (or-yes (same x u) (among us x) t)
-
-zero-same : (x : ℤ[ω]) → T (not (nonzero x)) → T (same x 𝟘)
-unfolding nonzero
-zero-same x t = go (same x 𝟘) t
-  where
-    go : (b : Bool) → T (not (not b)) → T b
-    go true t = tt
-    go false t = absurd t
-
 own-weight : (x : ℤ[ω]) → T (not (nonzero x) || among units x) → weight 6 x ≡ x
-unfolding each weight is unit same sameℤ _+ω_ _*ω_
-own-weight x t =
-    ⊎-elim (λ z. subst (λ (y : ℤ[ω]). weight 6 y ≡ y) (sym (same-yes x 𝟘 (zero-same x z))) refl) (λ m. same-yes (weight 6 x) x (among-each (λ y. same (weight 6 y) y) units x tt m)) (or-yes (not (nonzero x)) (among units x) t)
+unfolding weight is unit same sameℤ _+ω_ _*ω_
+own-weight x t = same-yes (weight 6 x) x (seven-pass (λ y. same (weight 6 y) y) tt x t)
 
 weights-all : (n : ℕ) (x r : Polynomial) → zerosAndUnits n x ≡ true → sum n (λ j. weight 6 (x j) *ω r j) ≡ sum n (λ j. x j *ω r j)
 weights-all n x r h =

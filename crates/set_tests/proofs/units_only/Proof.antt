@@ -1,14 +1,13 @@
 -- `units_only` meets its contract.
-use mathlib.Core.Path.{_≡_, refl, sym, _∙_, ap, subst}
+use mathlib.Core.Path.{_≡_, refl, sym, _∙_, ap}
 use mathlib.Core.Bool.{Bool, true, false, _&&_}
 use Prim.Native.Nat.{ℕ, _*_, _^_, _<_}
-use native.Mathlib.Omega.{arith}
 use borrow.Author.Needs.{needs}
-use lib.Dec.{T, leb, eqb, leb→le, eqb→eq}
+use lib.Dec.{leb, eqb}
 use lib.ListN.{length}
-use mir.Facts.{and-yes}
 use Rattle.polynomials.specs.Polynomials.{coefficient, count, nonzero, unitsOnly, zerosAndUnits}
 use Rattle.arrays.specs.Arrays.{full, unitsArray}
+use Rattle.set_tests.proofs.Sized.{sized}
 use Rattle.set_tests.proofs.units_only.Statement.{statement}
 use Rattle.set_tests.proofs.units_only.Tie as tie
 
@@ -31,11 +30,7 @@ together s e = sym (ap (λ (b : Bool). b && eqb (counted s) (s .args .t)) e) ∙
 -- what the count asks of N and of the length
 array-of : (s : tie.Start) → unitsArray (s .args .n) (s .args .x .now) ≡ true → (s .args .n < 2 ^ 32) × (length (s .args .x .now) ≡ 2 * s .args .n)
 unfolding unitsArray
-array-of s e =
-    let n = s .args .n in
-    let x = s .args .x .now in
-    let (small, rest) = and-yes (leb n 1024) (full n (length x) && zerosAndUnits n (coefficient x)) (subst T (sym e) tt) in
-    (omega (arith, leb→le n 1024 small), eqb→eq (length x) (2 * n) (and-yes (full n (length x)) (zerosAndUnits n (coefficient x)) rest .0))
+array-of s e = sized (s .args .n) (s .args .x .now) (zerosAndUnits (s .args .n) (coefficient (s .args .x .now))) e
 
 pub units-only-spec : {M : Type 1} → statement M
 units-only-spec =

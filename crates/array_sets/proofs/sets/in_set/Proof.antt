@@ -51,8 +51,8 @@ in-set-spec =
     (λ c. search needs)
     (λ c κs. search needs)
     (λ c. let s = c .before .before .before .before .before in c .units-only .ensures ∙ units-decide s _ ∙ sym (ap (tested s) (c .before .enum-told .given .1)))
-    (λ c. let s = c .before .before .before .before .before in c .units-of-sum-zero .ensures ∙ units-decide s _ ∙ sym (ap (tested s) (c .before .enum-told2 .given .1)))
-    (λ c. let s = c .before .before .before .before .before in c .units-of-sum-zero2 .ensures ∙ units-decide s _ ∙ sym (ap (tested s) (c .before .enum-told3 .given .1)))
+    (λ c. let s = c .before .before .before .before .before in c .whole-triples .ensures ∙ units-decide s _ ∙ sym (ap (tested s) (c .before .enum-told2 .given .1)))
+    (λ c. let s = c .before .before .before .before .before in c .whole-triples2 .ensures ∙ units-decide s _ ∙ sym (ap (tested s) (c .before .enum-told3 .given .1)))
     (λ c. c .reduced-modulo-2 .ensures ∙ sym (ap (tested (c .before .before .before .before .before)) (c .before .enum-told4 .given .1)))
     (λ c.
     let s = c .before .before .before .before .before in

@@ -1,13 +1,13 @@
 -- `count_nonzero` meets its contract.
-use mathlib.Core.Path.{_≡_, refl, sym, _∙_, ap}
-use mathlib.Core.Bool.{Bool, true, false, cond}
+use mathlib.Core.Path.{_≡_, sym, _∙_, ap}
+use mathlib.Core.Bool.{Bool, true, false}
 use mathlib.Core.List.{List}
 use mathlib.Core.Logic.{⊎-elim}
-use Prim.Native.Nat.{ℕ, _+_, _-_, _≤_}
+use Prim.Native.Nat.{ℕ, _-_, _≤_}
 use native.Mathlib.Omega.{arith}
-use native.Mathlib.Numerals.{add-one}
 use lib.IntN.{ℤ}
 use Rattle.polynomials.specs.Polynomials.{coefficient, count, nonzero}
+use Rattle.arrays.proofs.Scans.{count-none, count-more}
 use Rattle.set_tests.proofs.scans.count_nonzero.Statement.{statement}
 use Rattle.set_tests.proofs.scans.count_nonzero.Tie as tie
 
@@ -20,22 +20,14 @@ Inv-loop x n k₀ i₀ k i = (i ≤ n) × (k ≤ i) × (k ≡ count i (test x))
 abbrev μ-loop : tie.MeasureT-loop
 μ-loop x n k₀ i₀ k i = n - i
 
-none : (t : ℕ → Bool) → 0 ≡ count 0 t
-unfolding count
-none t = refl
-
-more : (t : ℕ → Bool) (i : ℕ) (b : Bool) → t i ≡ b → count (i + 1) t ≡ count i t + cond b 1 0
-unfolding count
-more t i b e = ap (λ (n : ℕ). count n t) (add-one i) ∙ ap (λ (c : Bool). count i t + cond c 1 0) e
-
 loop-again : tie.Need-loop-again Inv-loop μ-loop
 loop-again c =
     let l = c .before .before .before in
     let x = l .before .args .x .now in
     let e : test x (l .loop .i) ≡ c .before .nonzero-at .result = sym (c .before .nonzero-at .ensures) in
     ⊎-elim
-    (λ w. (omega (arith, c .before .before .loop-test .taken), omega (arith, w .1, l .loop .inv .1), omega (arith, w .1, l .loop .inv .2, more (test x) (l .loop .i) true (e ∙ w .0 .taken))))
-    (λ w. (omega (arith, c .before .before .loop-test .taken), omega (arith, w .1, l .loop .inv .1), omega (arith, w .1, l .loop .inv .2, more (test x) (l .loop .i) false (e ∙ w .0 .left))))
+    (λ w. (omega (arith, c .before .before .loop-test .taken), omega (arith, w .1, l .loop .inv .1), omega (arith, w .1, l .loop .inv .2, count-more (test x) (l .loop .i) true (e ∙ w .0 .taken))))
+    (λ w. (omega (arith, c .before .before .loop-test .taken), omega (arith, w .1, l .loop .inv .1), omega (arith, w .1, l .loop .inv .2, count-more (test x) (l .loop .i) false (e ∙ w .0 .left))))
     (c .if1 .came)
 
 pub count-nonzero-spec : {M : Type 1} → statement M
@@ -44,7 +36,7 @@ count-nonzero-spec =
     (tie.spec
     Inv-loop
     μ-loop
-    (λ c. (omega arith, omega arith, none (test (c .args .x .now))))
+    (λ c. (omega arith, omega arith, count-none (test (c .args .x .now))))
     (λ c κs. (omega (arith, c .loop-test .taken, c .before .before .pre), omega (arith, c .loop-test .taken, c .before .before .pre)))
     (λ c. omega arith)
     (λ c. omega arith)

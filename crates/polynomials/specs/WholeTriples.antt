@@ -1,0 +1,23 @@
+-- What document 02's wish 3 promises of the set of g and φ, for every N and s; each is proved in proofs/WholeTriples.antt.
+use mathlib.Core.Path.{_≡_}
+use mathlib.Core.Bool.{Bool, false, _&&_}
+use Prim.Native.Nat.{ℕ}
+use lib.Dec.{T}
+use Rattle.eisenstein.specs.Values.{𝟘, same}
+use Rattle.polynomials.specs.Polynomials.{Polynomial, sum, unitsOnly, unitCount, wholeTriples}
+
+-- "The sum is still zero"
+abbrev pub Sum-still-zero : Type 0
+Sum-still-zero = (N s : ℕ) (x : Polynomial) → T (wholeTriples N s x) → sum N x ≡ 𝟘
+
+-- Document 01's set of g and φ: "exactly s nonzero coefficients, each a unit, whose sum is zero"
+unfoldable pub unitsOfSumZero : ℕ → ℕ → Polynomial → Bool
+unitsOfSumZero N s x = unitsOnly N s x && same (sum N x) 𝟘
+
+-- "the narrower set": each of its members is one of document 01's,
+abbrev pub Narrower : Type 0
+Narrower = (N s : ℕ) (x : Polynomial) → T (wholeTriples N s x) → T (unitsOfSumZero N s x)
+
+-- and no g "with three coefficients 1 and three −1" is among them, while document 01's set has them all.
+abbrev pub Three-and-three-refused : Type 0
+Three-and-three-refused = (N : ℕ) (x : Polynomial) → T (unitsOnly N 6 x) → unitCount N x 0 ≡ 3 → unitCount N x 3 ≡ 3 → T (unitsOfSumZero N 6 x) × (wholeTriples N 6 x ≡ false)
