@@ -2,3 +2,4 @@ pub mod Scheme
 pub mod Calls
 pub mod Promises
 pub mod Demand3
+pub mod WholeTriples

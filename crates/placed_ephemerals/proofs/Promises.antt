@@ -16,7 +16,8 @@ use Rattle.eisenstein.specs.Values.{units}
 use Rattle.parameters.specs.Sets.{ParameterSet, parameterChecks}
 use Rattle.polynomials.specs.Polynomials.{Polynomial, coefficient, array, count, nonzero, among, unitsOnly, wholeTriples, reducedQ}
 use Rattle.polynomials.proofs.Arrays.{coefficient-array, array-length, array-same, array-coefficients}
-use Rattle.polynomials.proofs.Members.{all-at, units-count, triples-units, triples-same}
+use Rattle.polynomials.proofs.Members.{all-at, units-count, triples-units}
+use Rattle.polynomials.proofs.WholeTriples.{triples-same}
 use Rattle.arrays.specs.Arrays.{full}
 use Rattle.packing.specs.Messages.{messageBytes, packed, spareBitSet}
 use Rattle.packing.proofs.RoundTrips.{is-unset}

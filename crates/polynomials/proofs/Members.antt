@@ -1,5 +1,5 @@
 -- What membership in the sets of f, g and φ tells of a polynomial, and being reduced: each coefficient's norm is at most 1, and a product with such a polynomial is bounded by its count of units.
-use mathlib.Core.Path.{_≡_, refl, sym, ap, ap₂, subst}
+use mathlib.Core.Path.{_≡_, refl, sym, ap₂, subst}
 use mathlib.Core.Bool.{Bool, true, false, not, cond, _&&_, _||_}
 use mathlib.Core.List.{List, [], _∷_}
 use mathlib.Core.Logic.{⊎-elim}
@@ -10,11 +10,11 @@ use native.Mathlib.Nat.{one-mul, zero-mul}
 use borrow.Author.Tests.{not-false}
 use lib.Dec.{T, eqb, eqb→eq, leb, leb→le}
 use mir.Facts.{and-yes, yes-and, or-yes}
-use Rattle.eisenstein.specs.Values.{ℤ[ω], 𝟘, units, unit, norm, _*ω_, same, sameℤ}
+use Rattle.eisenstein.specs.Values.{ℤ[ω], 𝟘, units, norm, _*ω_, same, sameℤ}
 use Rattle.eisenstein.specs.Reduction.{modQ, mod2, bit}
 use Rattle.eisenstein.proofs.Equality.{same-yes, same-true}
 use Rattle.eisenstein.proofs.Modulo2.{by-bits, mod2-by-bits}
-use Rattle.polynomials.specs.Polynomials.{Polynomial, all, count, nonzero, among, unitsOnly, unitCount, equallyMany, wholeTriples, reducedQ, reduced2, convolution}
+use Rattle.polynomials.specs.Polynomials.{Polynomial, all, count, nonzero, among, unitsOnly, wholeTriples, reducedQ, reduced2, convolution}
 use Rattle.polynomials.proofs.Rings.{Group}
 use Rattle.polynomials.proofs.Sums.{total}
 use Rattle.polynomials.proofs.Convolutions.{conv, conv-single}
@@ -57,7 +57,7 @@ unfolding all
 all-same zero h = refl
 all-same (suc n) h = ap₂ _&&_ (all-same n (λ i p. h i (omega arith))) (h n (omega arith))
 
-count-same : (n : ℕ) {t u : ℕ → Bool} → ((i : ℕ) → i < n → t i ≡ u i) → count n t ≡ count n u
+pub count-same : (n : ℕ) {t u : ℕ → Bool} → ((i : ℕ) → i < n → t i ≡ u i) → count n t ≡ count n u
 unfolding count
 count-same zero h = refl
 count-same (suc n) h = ap₂ (λ (k : ℕ) (t : Bool). k + cond t 1 0) (count-same n (λ i l. h i (omega arith))) (h n (omega arith))
@@ -121,25 +121,6 @@ units-count N t x h = eqb→eq _ t (and-yes (eqb (count N (λ i. nonzero (x i)))
 pub triples-units : (N s : ℕ) (x : Polynomial) → T (wholeTriples N s x) → T (unitsOnly N s x)
 unfolding wholeTriples
 triples-units N s x h = and-yes (unitsOnly N s x) _ h .0
-
--- polynomials that agree below N are of the same set
-module _ (N : ℕ) {x y : Polynomial} (agree : (i : ℕ) → i < N → x i ≡ y i) where
-  units-same : (t : ℕ) → unitsOnly N t x ≡ unitsOnly N t y
-  unfolding unitsOnly
-  units-same t =
-      ap₂ _&&_ (ap (λ (k : ℕ). eqb k t) (count-same N (λ i l. ap nonzero (agree i l)))) (all-same N (λ i l. ap (λ (z : ℤ[ω]). not (nonzero z) || among units z) (agree i l)))
-
-  unit-count-same : (k : ℕ) → unitCount N x k ≡ unitCount N y k
-  unfolding unitCount
-  unit-count-same k = count-same N (λ i l. ap (λ (z : ℤ[ω]). same z (unit k)) (agree i l))
-
-  equally-many-same : (j k l : ℕ) → equallyMany N x j k l ≡ equallyMany N y j k l
-  unfolding equallyMany
-  equally-many-same j k l = ap₂ _&&_ (ap₂ eqb (unit-count-same j) (unit-count-same k)) (ap₂ eqb (unit-count-same k) (unit-count-same l))
-
-  pub triples-same : (s : ℕ) → wholeTriples N s x ≡ wholeTriples N s y
-  unfolding wholeTriples
-  triples-same s = ap₂ _&&_ (units-same s) (ap₂ _&&_ (equally-many-same 0 2 4) (equally-many-same 1 3 5))
 
 -- ---- reduced: each coefficient is its own remainder
 

@@ -1,20 +1,20 @@
 -- The promises of the set of g and φ: the sum of zeros and units by how many there are of each unit.
 use mathlib.Core.Path.{_≡_, refl, sym, _∙_, ap, ap₂, subst}
-use mathlib.Core.Bool.{Bool, true, false, not, cond, _||_}
+use mathlib.Core.Bool.{Bool, true, false, not, cond, _&&_, _||_}
 use Prim.Native.Nat.{ℕ, zero, suc, _+_, _%_, _<_}
 use native.Mathlib.Omega.{arith}
 use lib.Dec.{T, eqb, eqb→eq}
 use lib.IntN.{pos}
 use mir.Facts.{and-yes, yes-and}
-use Rattle.integers.proofs.Tests.{are-equal-2}
+use Rattle.integers.proofs.Tests.{equal-2, are-equal-2}
 use Rattle.eisenstein.specs.Values.{ℤ[ω], value, 𝟘, units, unit, same, sameℤ, _+ω_, _*ω_}
 use Rattle.eisenstein.proofs.Equality.{is-false, same-yes, same-true}
 use Rattle.eisenstein.proofs.Solver.{ringω, _≐_, _⊞_, _⊠_, conω}
 use Rattle.polynomials.specs.Polynomials.{Polynomial, sum, all, count, nonzero, among, zerosAndUnits, unitsOnly, unitCount, equallyMany, wholeTriples}
-use Rattle.polynomials.specs.WholeTriples.{Sum-still-zero, unitsOfSumZero, Narrower, Three-and-three-refused}
+use Rattle.polynomials.specs.WholeTriples.{Members-are-whole, Whole-are-members, Sum-still-zero, unitsOfSumZero, Narrower, Three-and-three-refused}
 use Rattle.polynomials.proofs.Sums.{total-same, total-swap}
 use Rattle.polynomials.proofs.Eisenstein.{ring, sum-is, sum-same}
-use Rattle.polynomials.proofs.Members.{all-at, seven-pass, units-count, triples-units}
+use Rattle.polynomials.proofs.Members.{all-at, all-same, count-same, seven-pass, units-count, triples-units}
 
 -- ---- the sum
 
@@ -105,18 +105,25 @@ zeros-and-units : (N s : ℕ) (x : Polynomial) → T (unitsOnly N s x) → T (ze
 unfolding unitsOnly
 zeros-and-units N s x h = and-yes (eqb (count N (λ i. nonzero (x i))) s) (zerosAndUnits N x) h .1
 
-counts : (N s : ℕ) (x : Polynomial) → T (wholeTriples N s x) → (unitCount N x 0 ≡ unitCount N x 2) × (unitCount N x 2 ≡ unitCount N x 4) × (unitCount N x 1 ≡ unitCount N x 3) × (unitCount N x 3 ≡ unitCount N x 5)
+pub members-are-whole : Members-are-whole
 unfolding wholeTriples equallyMany
-counts N s x h =
-    let w = and-yes (equallyMany N x 0 2 4) (equallyMany N x 1 3 5) (and-yes (unitsOnly N s x) _ h .1) in
-    let even = are-equal-2 (unitCount N x 0) (unitCount N x 2) (unitCount N x 2) (unitCount N x 4) (w .0) in
-    let odd = are-equal-2 (unitCount N x 1) (unitCount N x 3) (unitCount N x 3) (unitCount N x 5) (w .1) in
-    (even .0, even .1, odd .0, odd .1)
+members-are-whole N s x h =
+    let w = and-yes (unitsOnly N s x) _ h in
+    let c = and-yes (equallyMany N x 0 2 4) (equallyMany N x 1 3 5) (w .1) in record {
+      units = w .0;
+      even = are-equal-2 (unitCount N x 0) (unitCount N x 2) (unitCount N x 2) (unitCount N x 4) (c .0);
+      odd = are-equal-2 (unitCount N x 1) (unitCount N x 3) (unitCount N x 3) (unitCount N x 5) (c .1);
+    }
+
+pub whole-are-members : Whole-are-members
+unfolding wholeTriples equallyMany
+whole-are-members N s x w =
+    yes-and (unitsOnly N s x) _ (w .units) (yes-and (equallyMany N x 0 2 4) (equallyMany N x 1 3 5) (equal-2 (w .even .0) (w .even .1)) (equal-2 (w .odd .0) (w .odd .1)))
 
 pub sum-still-zero : Sum-still-zero
 sum-still-zero N s x h =
-    let c = counts N s x h in
-    sum-by-counts N x (zeros-and-units N s x (triples-units N s x h)) ∙ whole-sum (unitCount N x) (c .0) (c .1) (c .2) (c .3)
+    let w = members-are-whole N s x h in
+    sum-by-counts N x (zeros-and-units N s x (w .units)) ∙ whole-sum (unitCount N x) (w .even .0) (w .even .1) (w .odd .0) (w .odd .1)
 
 pub narrower : Narrower
 unfolding unitsOfSumZero
@@ -135,5 +142,25 @@ three-and-three-refused N x h e f =
     let u = zeros-and-units N 6 x h in
     let six : unitCount N x 0 + unitCount N x 1 + unitCount N x 2 + unitCount N x 3 + unitCount N x 4 + unitCount N x 5 ≡ 6 = sym (count-by-unit N x u) ∙ units-count N 6 x h in (
       yes-and (unitsOnly N 6 x) _ h (subst T (sym (same-true (sum-by-counts N x u ∙ three-and-three (unitCount N x) e f six))) tt),
-      is-false (wholeTriples N 6 x) (λ w. let c = counts N 6 x w in absurd (omega (arith, c .0, e, f, six))),
+      is-false (wholeTriples N 6 x) (λ w. absurd (omega (arith, members-are-whole N 6 x w .even .0, e, f, six))),
     )
+
+-- ---- polynomials that agree below N
+
+module _ (N : ℕ) {x y : Polynomial} (agree : (i : ℕ) → i < N → x i ≡ y i) where
+  units-same : (t : ℕ) → unitsOnly N t x ≡ unitsOnly N t y
+  unfolding unitsOnly
+  units-same t =
+      ap₂ _&&_ (ap (λ (k : ℕ). eqb k t) (count-same N (λ i l. ap nonzero (agree i l)))) (all-same N (λ i l. ap (λ (z : ℤ[ω]). not (nonzero z) || among units z) (agree i l)))
+
+  unit-count-same : (k : ℕ) → unitCount N x k ≡ unitCount N y k
+  unfolding unitCount
+  unit-count-same k = count-same N (λ i l. ap (λ (z : ℤ[ω]). same z (unit k)) (agree i l))
+
+  equally-many-same : (j k l : ℕ) → equallyMany N x j k l ≡ equallyMany N y j k l
+  unfolding equallyMany
+  equally-many-same j k l = ap₂ _&&_ (ap₂ eqb (unit-count-same j) (unit-count-same k)) (ap₂ eqb (unit-count-same k) (unit-count-same l))
+
+  pub triples-same : (s : ℕ) → wholeTriples N s x ≡ wholeTriples N s y
+  unfolding wholeTriples
+  triples-same s = ap₂ _&&_ (units-same s) (ap₂ _&&_ (equally-many-same 0 2 4) (equally-many-same 1 3 5))

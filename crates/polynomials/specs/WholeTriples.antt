@@ -6,6 +6,18 @@ use lib.Dec.{T}
 use Rattle.eisenstein.specs.Values.{𝟘, same}
 use Rattle.polynomials.specs.Polynomials.{Polynomial, sum, unitsOnly, unitCount, wholeTriples}
 
+-- "g and φ must hold equally many of units 0, 2 and 4, and equally many of units 1, 3 and 5": so does each member, and what does is one.
+pub record Whole (N s : ℕ) (x : Polynomial) : Type 0 where
+  pub units : T (unitsOnly N s x)
+  pub even : (unitCount N x 0 ≡ unitCount N x 2) × (unitCount N x 2 ≡ unitCount N x 4)
+  pub odd : (unitCount N x 1 ≡ unitCount N x 3) × (unitCount N x 3 ≡ unitCount N x 5)
+
+abbrev pub Members-are-whole : Type 0
+Members-are-whole = (N s : ℕ) (x : Polynomial) → T (wholeTriples N s x) → Whole N s x
+
+abbrev pub Whole-are-members : Type 0
+Whole-are-members = (N s : ℕ) (x : Polynomial) → Whole N s x → T (wholeTriples N s x)
+
 -- "The sum is still zero"
 abbrev pub Sum-still-zero : Type 0
 Sum-still-zero = (N s : ℕ) (x : Polynomial) → T (wholeTriples N s x) → sum N x ≡ 𝟘
