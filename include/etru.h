@@ -32,6 +32,8 @@
 // Terms
 //   ω² = −1 − ω, and the pair (a, b) is a + bω. The six units are (1,0), (1,1), (0,1), (−1,0), (−1,−1), (0,−1), with
 //   the numbers 0 to 5.
+//   Units in whole triples: equally many of units 0, 2 and 4, and equally many of units 1, 3 and 5. Their sum is zero,
+//   but units of sum zero need not be in whole triples: (1,0) and (−1,0) are not.
 //   A polynomial is N coefficients, lent as 2N numbers a0, b0, a1, b1 and so on. The product × of two is their
 //   convolution: coefficient i is the sum of products of coefficients j and k with (j + k) mod N = i.
 //   Reduced modulo 2: each coefficient is (0,0), (1,0), (0,1) or (−1,−1).
@@ -180,7 +182,7 @@ uint32_t etru_convolve(uint32_t n, int32_t c, int32_t d, uint32_t s, uint32_t t,
 //   f   ETRU_ARRAY_NUMBERS(n) numbers: exactly t nonzero coefficients, each a unit
 //   f2  ETRU_ARRAY_NUMBERS(n) numbers: F2, reduced modulo 2, with f × F2 congruent to 1 modulo 2
 //   fq  ETRU_ARRAY_NUMBERS(n) numbers: Fq, reduced modulo q, with f × Fq congruent to 1 modulo q
-//   g   ETRU_ARRAY_NUMBERS(n) numbers: exactly s nonzero coefficients, each a unit, whose sum is zero
+//   g   ETRU_ARRAY_NUMBERS(n) numbers: exactly s nonzero coefficients, each a unit, in whole triples
 //   h   output, ETRU_ARRAY_NUMBERS(n) numbers
 // Refusals in order: 1 to 6; 7 for any of the five arrays; 8 for f; 11 for F2; 12 for Fq; 9 for g; 13; 14.
 uint32_t etru_check_key(uint32_t n, int32_t c, int32_t d, uint32_t s, uint32_t t,
@@ -190,8 +192,8 @@ uint32_t etru_check_key(uint32_t n, int32_t c, int32_t d, uint32_t s, uint32_t t
 
 // Seals a message: e = 2φ × h + m reduced modulo q, where m is the message as etru_pack gives it.
 //   h        ETRU_ARRAY_NUMBERS(n) numbers: the public key, reduced modulo q
-//   phi      ETRU_ARRAY_NUMBERS(n) numbers: the ephemeral φ, exactly s nonzero coefficients, each a unit, whose sum is
-//            zero; the caller draws it for each message
+//   phi      ETRU_ARRAY_NUMBERS(n) numbers: the ephemeral φ, exactly s nonzero coefficients, each a unit, in whole
+//            triples; the caller draws it for each message
 //   message  ETRU_MESSAGE_BYTES(n) bytes, the spare bits zero
 //   e        output, ETRU_ARRAY_NUMBERS(n) numbers
 // Refusals in order: 1 to 6; 7 for h, phi, message or e; 12 for h; 10 for phi; 15 for message.
@@ -222,11 +224,11 @@ struct etru_placed_unit {
 
 // Seals a message: e is what etru_seal gives with the array that etru_spread_places gives.
 //   h        ETRU_ARRAY_NUMBERS(n) numbers: the public key, reduced modulo q
-//   places   s records: the ephemeral φ, no place twice, and the sum of the units is zero; the caller draws it for each
+//   places   s records: the ephemeral φ, no place twice, and the units in whole triples; the caller draws it for each
 //            message
 //   message  ETRU_MESSAGE_BYTES(n) bytes, the spare bits zero
 //   e        output, ETRU_ARRAY_NUMBERS(n) numbers
-// Refusals in order: 1 to 6; 7 for h, places, message or e; 12 for h; 23 for any record; 24; 10 for the sum; 15 for
+// Refusals in order: 1 to 6; 7 for h, places, message or e; 12 for h; 23 for any record; 24; 10 for the units; 15 for
 //   message.
 uint32_t etru_seal_places(uint32_t n, int32_t c, int32_t d, uint32_t s, uint32_t t,
                           const int32_t *h, size_t h_count,
@@ -234,9 +236,9 @@ uint32_t etru_seal_places(uint32_t n, int32_t c, int32_t d, uint32_t s, uint32_t
                           const uint8_t *message, size_t message_count, int32_t *e, size_t e_count);
 
 // The full array of an ephemeral, as etru_seal takes it.
-//   places  s records: no place twice, and the sum of the units is zero
+//   places  s records: no place twice, and the units in whole triples
 //   phi     output, ETRU_ARRAY_NUMBERS(n) numbers
-// Refusals in order: 1 to 6; 7 for places or phi; 23 for any record; 24; 10 for the sum.
+// Refusals in order: 1 to 6; 7 for places or phi; 23 for any record; 24; 10 for the units.
 uint32_t etru_spread_places(uint32_t n, int32_t c, int32_t d, uint32_t s, uint32_t t,
                             const struct etru_placed_unit *places, size_t places_count,
                             int32_t *phi, size_t phi_count);

@@ -12,6 +12,10 @@
 //! its last byte are zero. An ephemeral φ is an array too, or a list of its units with their places
 //! ([`PlacedUnit`]). The sealed arrays of a round are one file, a [`Bundle`].
 //!
+//! The s nonzero coefficients of g, and those of φ, are units in whole triples: equally many of 1,
+//! ω and ω², and equally many of −1, −ω and −ω². Other units are refused, also where their sum is
+//! zero.
+//!
 //! Slices of any length, with any contents, and any numbers may be given: what is wrong is refused.
 //! A call that returns an error leaves the outputs that it was lent as they came. No call panics,
 //! allocates or keeps anything, and any may be made from several threads at once. At every N
