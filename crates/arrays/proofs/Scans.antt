@@ -55,13 +55,33 @@ module _ {t : ℕ → Bool} {n : ℕ} where
   pub scan-all : {i : ℕ} → Scanned t n i → n ≤ i → true ≡ all n t
   scan-all {i} h p = sym (h .passed) ∙ ap (λ (k : ℕ). all k t) (omega arith)
 
-pub count-none : (t : ℕ → Bool) → 0 ≡ count 0 t
-unfolding count
-count-none t = refl
+-- a loop that counts the tests below n that are passed: so many of the first i were
+pub record Counted (t : ℕ → Bool) (n i found : ℕ) : Type 0 where
+  pub inside : i ≤ n
+  pub most : found ≤ i
+  pub is : found ≡ count i t
 
-pub count-more : (t : ℕ → Bool) (i : ℕ) (b : Bool) → t i ≡ b → count (i + 1) t ≡ count i t + cond b 1 0
-unfolding count
-count-more t i b e = ap (λ (n : ℕ). count n t) (add-one i) ∙ ap (λ (c : Bool). count i t + cond c 1 0) e
+module _ {t : ℕ → Bool} {n : ℕ} where
+  pub counted-none : Counted t n 0 0
+  unfolding count
+  counted-none = record { inside = omega arith; most = omega arith; is = refl }
+
+  counted-more : {i found found′ : ℕ} (b : Bool) → Counted t n i found → i < n → t i ≡ b → found′ ≡ found + cond b 1 0 → found′ ≤ i + 1 → Counted t n (i + 1) found′
+  unfolding count
+  counted-more {i} b h p e f l = record {
+    inside = omega arith;
+    most = l;
+    is = f ∙ ap₂ (λ (m : ℕ) (c : Bool). m + cond c 1 0) (h .is) (sym e) ∙ sym (ap (λ (n : ℕ). count n t) (add-one i));
+  }
+
+  pub counted-passed : {i found found′ : ℕ} → Counted t n i found → i < n → t i ≡ true → found′ ≡ found + 1 → Counted t n (i + 1) found′
+  counted-passed h p e f = counted-more true h p e f (omega (arith, f, h .most))
+
+  pub counted-failed : {i found found′ : ℕ} → Counted t n i found → i < n → t i ≡ false → found′ ≡ found → Counted t n (i + 1) found′
+  counted-failed h p e f = counted-more false h p e (omega (arith, f)) (omega (arith, f, h .most))
+
+  pub counted-all : {i found : ℕ} → Counted t n i found → n ≤ i → found ≡ count n t
+  counted-all h p = h .is ∙ ap (λ (k : ℕ). count k t) (omega (arith, h .inside))
 
 pub sum-none : (x : Polynomial) → 𝟘 ≡ sum 0 x
 unfolding sum

@@ -1,9 +1,9 @@
 -- `count_unit` meets its contract.
 use mathlib.Core.Path.{_≡_, sym, _∙_, ap}
-use mathlib.Core.Bool.{Bool, true, false}
+use mathlib.Core.Bool.{Bool}
 use mathlib.Core.List.{List}
 use mathlib.Core.Logic.{⊎-elim}
-use Prim.Native.Nat.{ℕ, _-_, _≤_}
+use Prim.Native.Nat.{ℕ, _-_}
 use native.Mathlib.Omega.{arith}
 use native.Mathlib.Nat.{mod-eq-of-lt}
 use borrow.Author.Needs.{needs}
@@ -13,7 +13,7 @@ use mir.Val.{toZ, ofZ}
 use Rattle.eisenstein.specs.Values.{ℤ[ω], value, unit, same}
 use Rattle.eisenstein.proofs.Pairs.{pair-read}
 use Rattle.polynomials.specs.Polynomials.{coefficient, count, unitCount}
-use Rattle.arrays.proofs.Scans.{count-none, count-more}
+use Rattle.arrays.proofs.Scans.{Counted, counted-none, counted-passed, counted-failed, counted-all}
 use Rattle.set_tests.proofs.scans.count_unit.Statement.{statement}
 use Rattle.set_tests.proofs.scans.count_unit.Tie as tie
 
@@ -21,22 +21,21 @@ abbrev test : List ℤ → (a b : ℕ) → ℕ → Bool
 test x a b i = same (coefficient x i) (value (toZ w32 a) (toZ w32 b))
 
 abbrev Inv-loop : tie.InvT-loop
-Inv-loop x n k a b found₀ i₀ found i = (i ≤ n) × (found ≤ i) × (found ≡ count i (test x a b))
+Inv-loop x n k a b found₀ i₀ found i = Counted (test x a b) n i found
 
 abbrev μ-loop : tie.MeasureT-loop
 μ-loop x n k a b found₀ i₀ found i = n - i
 
 loop-again : tie.Need-loop-again Inv-loop μ-loop
 loop-again c =
-    let l = c .before .before .before in
-    let s = l .before .before .before .before in
-    let u = l .before .before .before .unit .result in
-    let t : ℕ → Bool = test (s .args .x .now) (ofZ w32 (u .a)) (ofZ w32 (u .b)) in
-    let e : t (l .loop .i) ≡ c .before .equal-at .result = sym (c .before .equal-at .ensures) in
-    ⊎-elim
-    (λ w. (omega (arith, c .before .before .loop-test .taken), omega (arith, w .1, l .loop .inv .1), omega (arith, w .1, l .loop .inv .2, count-more t (l .loop .i) true (e ∙ w .0 .taken))))
-    (λ w. (omega (arith, c .before .before .loop-test .taken), omega (arith, w .1, l .loop .inv .1), omega (arith, w .1, l .loop .inv .2, count-more t (l .loop .i) false (e ∙ w .0 .left))))
-    (c .if1 .came)
+    let before = c .before .before .before .loop .inv in
+    let taken = c .before .before .loop-test .taken in
+    let e = sym (c .before .equal-at .ensures) in
+    ⊎-elim (λ w. counted-passed before taken (e ∙ w .0 .taken) (w .1)) (λ w. counted-failed before taken (e ∙ w .0 .left) (w .1)) (c .if1 .came)
+
+-- the pair that is looked for is unit k
+is-unit : (c : tie.After-unit Inv-loop μ-loop) → value (toZ w32 (ofZ w32 (c .unit .result .a))) (toZ w32 (ofZ w32 (c .unit .result .b))) ≡ unit (c .before .args .k)
+is-unit c = pair-read (search needs) (search needs) ∙ c .unit .ensures ∙ ap unit (mod-eq-of-lt {n = c .before .args .k} {m = 6} (c .before .pre .2))
 
 pub count-unit-spec : {M : Type 1} → statement M
 unfolding unitCount
@@ -46,17 +45,13 @@ count-unit-spec =
     Inv-loop
     μ-loop
     (λ c κs. tt)
-    (λ c. (omega arith, omega arith, count-none _))
+    (λ c. counted-none)
     (λ c κs. let s = c .before .before .before .before .before in (omega (arith, c .loop-test .taken, s .pre), omega (arith, c .loop-test .taken, s .pre)))
-    (λ c. omega arith)
+    (λ c. omega (arith, c .before .before .before .loop .inv .most, c .before .before .loop-test .taken))
     (λ c. omega arith)
     (λ c. omega arith)
     loop-again
     (λ c.
-    let l = c .before in
-    let u = l .before .before .before in
-    let s = u .before in
-    let e : l .loop .i ≡ s .args .n = omega (arith, l .loop .inv .0, c .loop-test .left) in
-    l .loop .inv .2
-    ∙ ap (λ (i : ℕ). count i (test (s .args .x .now) (ofZ w32 (u .unit .result .a)) (ofZ w32 (u .unit .result .b)))) e
-    ∙ ap (λ (y : ℤ[ω]). count (s .args .n) (λ i. same (coefficient (s .args .x .now) i) y)) (pair-read (search needs) (search needs) ∙ u .unit .ensures ∙ ap unit (mod-eq-of-lt {n = s .args .k} {m = 6} (s .pre .2)))))
+    let u = c .before .before .before .before in
+    counted-all (c .before .loop .inv) (omega (arith, c .loop-test .left))
+    ∙ ap (λ (y : ℤ[ω]). count (u .before .args .n) (λ i. same (coefficient (u .before .args .x .now) i) y)) (is-unit u)))
