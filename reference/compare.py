@@ -11,8 +11,8 @@ import random
 import sys
 
 import etru_reference as reference
-from keys import ONE, SEALED, SMALL, TRIPLE, Key
-from keys import random_message, random_reduced, random_zero_sum, varied_keys
+from keys import ONE, SEALED, SIX_UNITS, SMALL, TRIPLE, Key
+from keys import random_message, random_reduced, random_triples, scattered, units_in_pairs, varied_keys
 from library import Library
 
 LOW64, HIGH64 = -(2**63), 2**63 - 1
@@ -282,7 +282,7 @@ def one_key(results, library, rng, key, kinds):
         message = random_message(rng, n, kind)
         m = run("pack", [message], 2 * n, 0)
         results.expect(f"unpacking, N = {n}", library.unpack(n, m, held_before(rng, "unpack", len(message))), (0, message))
-        e = run("seal", [h, random_zero_sum(rng, n, p.s), message], 2 * n, 0)
+        e = run("seal", [h, random_triples(rng, n, p.s), message], 2 * n, 0)
         opened = run("open", [key.f, key.f2, e], len(message), 0)
         results.expect(f"opening by the definition gives the message, N = {n}, q = {p.q}", opened, message)
     return h
@@ -308,6 +308,30 @@ def random_keys(results, library, rng):
         for way in [(1, 2), (2, 1)][: 1 if n > 1000 else 2]:
             worst = reference.array([reference.reduce_q(reference.multiply(third, way), q)] * n)
             one_call(results, library, rng, "convolve", p, [worst, worst], 2 * n, 0)
+
+
+# ---- whole triples, document 02's wish 3
+
+
+def choices_of_units(s):
+    """Each choice of s units, by their numbers, and whether it is made of 1, ω, ω² and their negatives alone."""
+    made = {tuple(sorted([0, 2, 4] * k + [1, 3, 5] * (s // 3 - k))) for k in range(s // 3 + 1)}
+    return [(list(units), units in made) for units in itertools.combinations_with_replacement(range(6), s)]
+
+
+def whole_triples(results, library, rng):
+    """Units as g and as φ, in a key whose f, F2 and Fq are 1: the key check, sealing, and opening what is sealed."""
+    for s, choices in [(6, SIX_UNITS)] + [(s, choices_of_units(s)) for s in (3, 6, 9)]:
+        n = s + 2
+        p, one = reference.Parameters(n, (0, 81), s, 1), reference.array(reference.one(n))
+        h = random_triples(rng, n, s)
+        for units, whole in choices:
+            x, message = scattered(rng, n, rng.sample(units, s)), random_message(rng, n, "random")
+            one_call(results, library, rng, "check_key", p, [one, one, one, x], 2 * n, 0 if whole else 9)
+            e = one_call(results, library, rng, "seal", p, [h, x, message], 2 * n, 0 if whole else 10)
+            if whole:
+                opened = one_call(results, library, rng, "open", p, [one, one, e], len(message), 0)
+                results.expect(f"opening what was sealed with units {units}", opened, message)
 
 
 def messages(results, library, rng):
@@ -388,6 +412,13 @@ def at(place, value):
     return lambda numbers: numbers[: 2 * place] + list(value) + numbers[2 * place + 2 :]
 
 
+def with_units(numbers, places, units):
+    """The array with these units, given by their numbers, at these places."""
+    for place, unit in zip(places, units):
+        numbers = at(place, reference.UNITS[unit])(numbers)
+    return numbers
+
+
 def array_changes(rng, case, number, name):
     """Changes of one array that make one check apply."""
     if number == 15:
@@ -402,7 +433,7 @@ def array_changes(rng, case, number, name):
         changes += [at(rng.choice(empty), value) for value in reference.UNITS + NOT_UNITS if empty]
         changes.append(lambda numbers: [0] * len(numbers))
         if number != 8:
-            # the sum is not zero
+            # one unit is another
             place = rng.choice(filled)
             changes += [at(place, unit) for unit in reference.UNITS if unit != polynomial[place]]
             # the sum is zero and the count right, but two are no units
@@ -410,8 +441,11 @@ def array_changes(rng, case, number, name):
             for step in [(3, 0), (5, 7), (2**30, -(2**30))]:
                 x, y = reference.add(polynomial[i], step), reference.subtract(polynomial[j], step)
                 changes.append(lambda numbers, i=i, j=j, x=x, y=y: at(i, x)(at(j, y)(numbers)))
+            # the sum is zero and all are units, as many as there should be, but their triples are not whole
+            for _ in range(6 if len(filled) >= 6 else 0):
+                changes.append(lambda numbers, units=units_in_pairs(rng, len(filled)): with_units(numbers, filled, units))
             if len(empty) >= 3:
-                # the sum is zero and all are units, but there are three more
+                # the triples are whole, but there is one more
                 a, b, c = empty[:3]
                 changes.append(lambda numbers: at(a, (1, 0))(at(b, (0, 1))(at(c, (-1, -1))(numbers))))
         return changes
@@ -457,7 +491,7 @@ def cases_of(rng, key):
     """An accepted case of each call with this key."""
     p, n = key.p, key.p.n
     h = key.h()
-    phi, message = random_zero_sum(rng, n, p.s), random_message(rng, n, "random")
+    phi, message = random_triples(rng, n, p.s), random_message(rng, n, "random")
     e = reference.call_seal(p, h, phi, message, 2 * n)[1]
     m = reference.array(reference.pack(n, message))
     arrays = {"f": key.f, "f2": key.f2, "fq": key.fq, "g": key.g, "h": h, "phi": phi, "message": message, "e": e, "m": m}
@@ -540,6 +574,7 @@ def main():
     parameter_sets(results, library, rng)
     messages(results, library, rng)
     random_keys(results, library, rng)
+    whole_triples(results, library, rng)
     refusals(results, library, rng)
     print(f"comparison with the reference program, seed {seed}:")
     print(f"{results.passed} passed, {results.failed} failed")

@@ -18,7 +18,7 @@ from compare_files import file_parameter_spoils, fits, fitting, head_spoils, lar
 from compare_files import parameters_before, random_numbers, setting, stored_array, stored_head, wrong_rooms
 from etru_reference import BUNDLE_FILE, PRIVATE_FILE, PUBLIC_FILE, SEALED_FILE
 from keys import ONE, SEALED, SMALL, Key
-from keys import random_message, random_parameters, random_reduced, random_zero_sum, varied_keys
+from keys import random_message, random_parameters, random_reduced, random_triples, varied_keys
 from library import Library
 
 HIGH_U16, HIGH_SIZE = 2**16 - 1, 2**64 - 1
@@ -551,7 +551,7 @@ def one_round(results, library, rng, key, count):
     messages = [random_message(rng, n, rng.choice(["zero", "one", "random", "random"])) for _ in stops]
     arrays = []
     for message in messages:
-        sealed = library.seal(*head, h, random_zero_sum(rng, n, p.s), message, [0] * (2 * n))
+        sealed = library.seal(*head, h, random_triples(rng, n, p.s), message, [0] * (2 * n))
         results.expect(f"sealing, {what}", sealed[0], 0)
         arrays.append(sealed[1])
     bundle = Bundle(p, stops, arrays)

@@ -18,8 +18,8 @@ import etru_reference as reference
 from compare import HIGH32, LOW32, Changeable, Results
 from compare import array_changes, at, in_array, outputs_after, parameter_spoils, spoiled_in_order
 from etru_reference import PRIVATE_FILE, PUBLIC_FILE, SEALED_FILE
-from keys import KEY_MODULI, ONE, SEALED, SMALL, TRIPLE, Key
-from keys import random_f, random_message, random_parameters, random_reduced, random_zero_sum
+from keys import KEY_MODULI, ONE, SEALED, SIX_UNITS, SMALL, TRIPLE, Key
+from keys import random_f, random_message, random_parameters, random_reduced, random_triples, scattered
 from library import ROOT, Library
 
 PROGRAM = os.path.join(ROOT, "target", "bin", "etru_open")
@@ -103,7 +103,7 @@ class Files:
     def seal(self, message_kind):
         n = self.p.n
         message = random_message(self.rng, n, message_kind)
-        phi = random_zero_sum(self.rng, n, self.p.s)
+        phi = random_triples(self.rng, n, self.p.s)
         _, e = reference.call_seal(self.p, self.h, phi, message, 2 * n)
         return (message, File(SEALED_FILE, self.p, [e]))
 
@@ -242,6 +242,18 @@ def documented_inputs():
     yield ("document 01's key with f at X", private.bytes() + DOCUMENTED_SEALED, opened([0xB0]))
 
 
+def with_six_units(files):
+    """The private file with each g of six units of sum zero, and whether that g is in whole triples."""
+    for units, whole in SIX_UNITS:
+        yield (whole, files.private.with_array("g", scattered(files.rng, files.p.n, units)))
+
+
+def six_unit_inputs(files):
+    for whole, private in with_six_units(files):
+        due = opened(files.message) if whole else refused(9)
+        yield (f"g is {private.arrays['g']}", Input(private, files.sealed).bytes(), due)
+
+
 def random_key(rng, n):
     while True:
         key = Key(rng, random_parameters(rng, n, rng.choice(KEY_MODULI)), 30)
@@ -274,7 +286,7 @@ def stretched(rng, key, factor, s):
     result = copy.copy(key)
     result.p = reference.Parameters(key.p.n * factor, key.p.q, s, key.p.t)
     result.f, result.f2, result.fq = spread(key.f), spread(key.f2), spread(key.fq)
-    result.g = random_zero_sum(rng, result.p.n, s)
+    result.g = random_triples(rng, result.p.n, s)
     return result
 
 
@@ -523,6 +535,7 @@ def program(results, library, rng, all_files):
     small = all_files[0]
     groups = [documented_inputs(), valid_inputs(rng), large_inputs(rng), own_head_inputs(rng)]
     groups += [other_files(small), long_inputs(rng, small), random_inputs(rng, all_files)]
+    groups += [six_unit_inputs(files) for files in all_files if files.p.s == 6]
     groups += [cut_inputs(files) for files in all_files]
     groups += [flipped_inputs(rng, files) for files in all_files[:2]]
     groups += [spoiled_inputs(rng, files) for files in all_files[:2]]
@@ -599,7 +612,7 @@ def random_files(rng, n):
     """A file of each kind with arrays of the right sets; the private one need be no key."""
     p = random_parameters(rng, n, rng.choice(KEY_MODULI))
     f2 = reference.array(reference.pack(n, random_message(rng, n, "random")))
-    f, fq, g = reference.array(random_f(rng, n, p.t)), random_reduced(rng, p), random_zero_sum(rng, n, p.s)
+    f, fq, g = reference.array(random_f(rng, n, p.t)), random_reduced(rng, p), random_triples(rng, n, p.s)
     yield File(PRIVATE_FILE, p, [f, f2, fq, g])
     for kind in (PUBLIC_FILE, SEALED_FILE):
         yield File(kind, p, [random_reduced(rng, p)])
@@ -660,6 +673,13 @@ def reading_and_writing(results, library, rng, all_files):
     for n in [*range(3, 41), 255, 256, 257, 1023, 1024]:
         for file in random_files(rng, n):
             right_file(results, library, rng, file)
+    for files in all_files:
+        for whole, private in with_six_units(files) if files.p.s == 6 else []:
+            if whole:
+                right_file(results, library, rng, private)
+            else:
+                one_read(results, library, rng, PRIVATE_FILE, private.bytes(), private.number_room, 9)
+                one_write(results, library, rng, private, 9)
     for files in all_files[:2]:
         for file in files.all():
             damaged_file(results, library, rng, file)

@@ -11,10 +11,10 @@ import sys
 
 import etru_reference as reference
 from compare import HIGH32, LOW32, Changeable, Results
-from compare import all_spoiled, array_changes, in_array, outputs_after, parameter_spoils, some
+from compare import all_spoiled, array_changes, choices_of_units, in_array, outputs_after, parameter_spoils, some
 from etru_reference import UNITS
-from keys import SEALED, SMALL, TRIPLE, Key
-from keys import random_message, random_zero_sum, varied_keys
+from keys import SEALED, SIX_UNITS, SMALL, TRIPLE, Key
+from keys import random_message, random_triples, units_in_pairs, varied_keys
 from library import Library
 
 HIGH_U32 = 2**32 - 1
@@ -69,7 +69,7 @@ def shuffled(rng, places):
 def cases_of(rng, key):
     """An accepted case of each call with this key."""
     p = key.p
-    places = shuffled(rng, places_of(random_zero_sum(rng, p.n, p.s)))
+    places = shuffled(rng, places_of(random_triples(rng, p.n, p.s)))
     inputs = {"h": key.h(), "places": places, "message": random_message(rng, p.n, "random")}
     return [Case(call, p, inputs) for call in CALLS]
 
@@ -92,7 +92,7 @@ def one_key(results, library, rng, key):
     """Seal from places in several orders, and from the array that they spread to, and open the message."""
     p, n = key.p, key.p.n
     head = (n, p.q, p.s, p.t)
-    h, phi, message = key.h(), random_zero_sum(rng, n, p.s), random_message(rng, n, "random")
+    h, phi, message = key.h(), random_triples(rng, n, p.s), random_message(rng, n, "random")
     rising = places_of(phi)
     sealed = set()
     for places in [shuffled(rng, rising), rising, rising[::-1]][: 1 if n > 1000 else 3]:
@@ -156,6 +156,16 @@ def other_units(places, k):
     return [record(k, unit=unit) for unit in range(6) if unit != places[k][1]]
 
 
+def with_units(units):
+    """The change of a list that gives its records these units."""
+    return lambda places: [(place, unit) for (place, _), unit in zip(places, units)]
+
+
+def pairs_for_triples(rng, s):
+    """Changes that give a list units of sum zero whose triples are not whole, if it has six records."""
+    return [with_units(units_in_pairs(rng, s)) for _ in range(6 if s >= 6 else 0)]
+
+
 def length_changes(rng, case):
     """Lists of other lengths, with good and with bad records, and the other lengths that are asked."""
     places, n, s = case.places(), case.n, case.s
@@ -163,7 +173,7 @@ def length_changes(rng, case):
     lists = [places[:-1], places[1:], places + places[:1], places + places, places + [(n, 0)], [(0, 6)] + places]
     lists += [[], places[:1], [(n, 6)] * (s - 1), [(0, 0)] * (s + 1)]
     free = sorted(set(range(n)) - {place for place, _ in places})
-    # more records whose places are all different, and whose sum is zero
+    # more records whose places are all different, and whose triples are whole
     lists += [places + [(free[0], 0)]] if free else []
     lists += [places + [(place, 2 * k) for k, place in enumerate(free[:3])]] if len(free) >= 3 else []
     for count in (n, n + 1, 1023, 1024, 1025, 5000):
@@ -187,8 +197,8 @@ def length_changes(rng, case):
 def steps_of(rng, case):
     """Each check of the call in order: its number, and changes of the case that make it apply.
 
-    23 changes the first record, 24 makes the last one's place that of the second, and 10 changes the second one's unit,
-    so that all of them can apply at once.
+    23 changes the first record, 24 makes the last one's place that of the second, and 10 changes the second one's unit
+    or all units, so that all of them can apply at once.
     """
     places = case.places()
     steps = parameter_spoils(case) + [(7, length_changes(rng, case))]
@@ -196,7 +206,7 @@ def steps_of(rng, case):
         steps.append((12, in_array("h", array_changes(rng, case, 12, "h"))))
     steps.append((23, in_array("places", out_of_range(case.n, 0, *places[0]))))
     steps.append((24, in_array("places", same_place(places, 1, -1))))
-    steps.append((10, in_array("places", other_units(places, 1))))
+    steps.append((10, in_array("places", other_units(places, 1) + pairs_for_triples(rng, case.s))))
     if case.call == "seal_places":
         steps.append((15, in_array("message", array_changes(rng, case, 15, "message"))))
     return [(number, changes) for number, changes in steps if changes]
@@ -242,6 +252,8 @@ def wrong_records(results, library, rng, case):
             bad += [record(k, place=n), record(k, HIGH_U32, 6)] if k not in (i, j) else []
             for change in bad:
                 one_list(results, library, rng, case, both(record(j, place=places[i][0]), change), 23)
+    for change in pairs_for_triples(rng, case.s):
+        one_list(results, library, rng, case, change, 10)
     # all the same record, and all with the same unit
     case.with_array("places", [places[0]] * len(places)).run(results, library, rng, 24)
     case.with_array("places", [(n, 6)] * len(places)).run(results, library, rng, 23)
@@ -277,6 +289,18 @@ def all_lists_of_three(results, library, rng):
     results.expect("the numbers of the lists of three records", sorted(numbers), [0, 10, 15, 23, 24])
 
 
+def whole_triples(results, library, rng):
+    """Six units of sum zero, and each choice of up to twelve units, at random places."""
+    for s, choices in [(6, SIX_UNITS)] + [(s, choices_of_units(s)) for s in (3, 6, 9, 12)]:
+        p = reference.Parameters(s + 2, (0, 81), s, 1)
+        h, message = random_triples(rng, p.n, s), random_message(rng, p.n, "random")
+        for units, whole in choices:
+            places = list(zip(rng.sample(range(p.n), s), units))
+            for call in CALLS if s == 6 else ["spread_places"]:
+                case = Case(call, p, {"h": h, "places": shuffled(rng, places), "message": message})
+                case.run(results, library, rng, 0 if whole else 10)
+
+
 def many_records(results, library, rng, case):
     """1,023 records at N = 1,024: what is wrong stands at the front, at the end, far apart and side by side."""
     places, n, s = case.places(), case.n, case.s
@@ -285,6 +309,8 @@ def many_records(results, library, rng, case):
         for change in rng.sample(out_of_range(n, k, *places[k]), 4):
             case.with_array("places", change(places)).run(results, library, rng, 23)
         case.with_array("places", rng.choice(other_units(places, k))(places)).run(results, library, rng, 10)
+    for change in pairs_for_triples(rng, s):
+        case.with_array("places", change(places)).run(results, library, rng, 10)
     for i, j in itertools.permutations(ends, 2):
         change = rng.choice(same_place(places, i, j))
         case.with_array("places", change(places)).run(results, library, rng, 24)
@@ -337,6 +363,7 @@ def main():
         wrong_records(results, library, rng, case)
     limits(results, library, rng)
     all_lists_of_three(results, library, rng)
+    whole_triples(results, library, rng)
     random_lists(results, library, rng, small + middle + six + eight)
     large = cases_of(rng, Key(rng, reference.Parameters(1024, (4095, -4095), 1023, 1), 1))
     for case in large:

@@ -149,8 +149,10 @@ def units_only(x, count):
     return len(nonzero) == count and all(value in UNITS for value in nonzero)
 
 
-def units_of_sum_zero(x, count):
-    return units_only(x, count) and (sum(a for a, _ in x), sum(b for _, b in x)) == (0, 0)
+def whole_triples(x, count):
+    """Document 02's wish 3: equally many of units 0, 2 and 4, and equally many of units 1, 3 and 5."""
+    k0, k1, k2, k3, k4, k5 = map(x.count, UNITS)
+    return units_only(x, count) and k0 == k2 == k4 and k1 == k3 == k5
 
 
 def reduced_q(x, q):
@@ -248,7 +250,7 @@ def call_check_key(p, f, f2, fq, g, room):
             (8, lambda: not units_only(coefficients(f), p.t)),
             (11, lambda: not reduced_2(coefficients(f2))),
             (12, lambda: not reduced_q(coefficients(fq), p.q)),
-            (9, lambda: not units_of_sum_zero(coefficients(g), p.s)),
+            (9, lambda: not whole_triples(coefficients(g), p.s)),
         ]
         + inverse_checks(p, f, f2, fq)
     )
@@ -261,7 +263,7 @@ def call_seal(p, h, phi, message, room):
         + [
             (7, lambda: lengths_wrong(p.n, [h, phi], room, len(message))),
             (12, lambda: not reduced_q(coefficients(h), p.q)),
-            (10, lambda: not units_of_sum_zero(coefficients(phi), p.s)),
+            (10, lambda: not whole_triples(coefficients(phi), p.s)),
             (15, lambda: spare_bit_set(p.n, message)),
         ]
     )
@@ -287,7 +289,7 @@ def place_checks(p, places):
     return [
         (23, lambda: any(place >= p.n or unit > 5 for place, unit in places)),
         (24, lambda: len({place for place, _ in places}) < len(places)),
-        (10, lambda: not units_of_sum_zero(spread(p.n, places), p.s)),
+        (10, lambda: not whole_triples(spread(p.n, places), p.s)),
     ]
 
 
@@ -362,7 +364,7 @@ KINDS = {
         (8, lambda p, f: not units_only(f, p.t)),
         (11, lambda p, f2: not reduced_2(f2)),
         (12, lambda p, fq: not reduced_q(fq, p.q)),
-        (9, lambda p, g: not units_of_sum_zero(g, p.s)),
+        (9, lambda p, g: not whole_triples(g, p.s)),
     ],
     # e
     SEALED_FILE: [(12, lambda p, e: not reduced_q(e, p.q))],

@@ -13,6 +13,22 @@ ONE = [1, 0, 0, 0, 0, 0]
 TRIPLE = [1, 0, 0, 1, -1, -1]
 SEALED = [7, 0, -1, 5, -6, -6]
 
+# six units of sum zero, by their numbers, and whether they are in whole triples
+SIX_UNITS = [
+    # the g of document 02's wish 3: three coefficients 1 and three -1
+    ([0, 0, 0, 3, 3, 3], False),
+    # 1, 1, -1, -1, ω, -ω; the same with ω² for ω; and ω for 1
+    ([0, 0, 3, 3, 2, 5], False),
+    ([0, 0, 3, 3, 4, 1], False),
+    ([2, 2, 5, 5, 0, 3], False),
+    ([2, 2, 2, 5, 5, 5], False),
+    ([1, 1, 1, 4, 4, 4], False),
+    # 1, -1, ω, -ω, ω², -ω²: a triple and its negative
+    ([0, 3, 2, 5, 4, 1], True),
+    ([0, 2, 4, 4, 2, 0], True),
+    ([1, 3, 5, 1, 3, 5], True),
+]
+
 KEY_MODULI = [
     (15, 0),
     (0, 81),
@@ -148,19 +164,37 @@ def random_f(rng, n, t):
     return f
 
 
-def random_zero_sum(rng, n, s):
-    """s units of sum zero: pairs u, -u and triples u, uω, uω², at random places."""
-    pairs = 3 * rng.randint(0, s // 6)
-    alike = rng.randrange(6) if rng.randrange(3) == 0 else None
-    units = []
-    for k in range(pairs + (s - 2 * pairs) // 3):
-        first = rng.randrange(6) if alike is None else alike
-        steps = (0, 3) if k < pairs else (0, 2, 4)
-        units += [reference.UNITS[(first + step) % 6] for step in steps]
+def units_in_triples(rng, s):
+    """The numbers of s units: triples 1, ω, ω², which are units 0, 2, 4, or their negatives, which are 3, 5, 1."""
+    triples = [(0, 2, 4), (3, 5, 1)]
+    if rng.randrange(3) == 0:
+        # all of them alike
+        triples = [rng.choice(triples)]
+    return [unit for _ in range(s // 3) for unit in rng.choice(triples)]
+
+
+def units_in_pairs(rng, s):
+    """The numbers of s units, 6 or more, of sum zero that are not in whole triples: pairs u, -u, and triples.
+
+    Units k and k + 3 are a pair. Pairs are in whole triples only where those of k = 0, 1 and 2 are equally many.
+    """
+    pairs = 3 * rng.randint(1, s // 6)
+    firsts = [0, 1, 2] * (pairs // 3)
+    while len({firsts.count(k) for k in range(3)}) == 1:
+        firsts = [rng.randrange(3) for _ in range(pairs)]
+    return [unit for k in firsts for unit in (k, k + 3)] + units_in_triples(rng, s - 2 * pairs)
+
+
+def scattered(rng, n, units):
+    """The array of N coefficients with these units, given by their numbers, at random places."""
     result = [(0, 0)] * n
-    for place, unit in zip(rng.sample(range(n), s), units):
-        result[place] = unit
+    for place, unit in zip(rng.sample(range(n), len(units)), units):
+        result[place] = reference.UNITS[unit]
     return reference.array(result)
+
+
+def random_triples(rng, n, s):
+    return scattered(rng, n, units_in_triples(rng, s))
 
 
 def random_message(rng, n, kind):
@@ -200,7 +234,7 @@ class Key:
                 self.f = reference.array(f)
                 self.f2 = reference.array(reference.all_reduced_2(f2))
                 self.fq = reference.array(reference.all_reduced_q(fq, p.q))
-                self.g = random_zero_sum(rng, p.n, p.s)
+                self.g = random_triples(rng, p.n, p.s)
                 return
 
     def h(self):

@@ -9,7 +9,7 @@ import random
 import sys
 
 import etru_reference as reference
-from keys import ONE, SEALED, SMALL, TRIPLE, Key, random_zero_sum
+from keys import ONE, SEALED, SMALL, TRIPLE, Key, random_triples
 
 TRIES = 1000
 
@@ -75,7 +75,7 @@ def public_key(path):
 def sealed_array(rng, p, h, digits):
     """A message, given in hexadecimal, sealed with a random φ."""
     message = message_of(digits, p.n)
-    number, e = reference.call_seal(p, h, random_zero_sum(rng, p.n, p.s), message, 2 * p.n)
+    number, e = reference.call_seal(p, h, random_triples(rng, p.n, p.s), message, 2 * p.n)
     if number:
         # all else is checked or made right above, so this is 15
         spare = 8 * len(message) - 2 * p.n
