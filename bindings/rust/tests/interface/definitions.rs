@@ -167,8 +167,12 @@ fn units_only(x: &[i32], count: u32) -> bool {
     nonzero.len() == count as usize && nonzero.iter().all(|value| UNITS.contains(value))
 }
 
-fn units_of_sum_zero(x: &[i32], count: u32) -> bool {
-    units_only(x, count) && coefficients(x).into_iter().fold((0, 0), add) == (0, 0)
+/// Document 02: "equally many of units 0, 2 and 4, and equally many of units 1, 3 and 5"
+fn whole_triples(x: &[i32], count: u32) -> bool {
+    let x = coefficients(x);
+    let [k0, k1, k2, k3, k4, k5] =
+        UNITS.map(|unit| x.iter().filter(|&&value| value == unit).count());
+    units_only(&array(&x), count) && k0 == k2 && k2 == k4 && k1 == k3 && k3 == k5
 }
 
 // ---- Calls on a parameter set
@@ -210,7 +214,7 @@ pub fn check_key(p: Parameters, [f, f2, fq, g]: [&[i32]; 4], room: usize) -> Res
     refuse(8, !units_only(f, p.t))?;
     refuse(11, !reduced_2(f2))?;
     refuse(12, !reduced_q(fq, q))?;
-    refuse(9, !units_of_sum_zero(g, p.s))?;
+    refuse(9, !whole_triples(g, p.s))?;
     check_inverses(p, f, f2, fq)?;
     let h = convolution(&coefficients(fq), &coefficients(g));
     Ok(array(&all_remainders_q(&h, q)))
@@ -228,7 +232,7 @@ pub fn seal(
     refuse(7, !all_full(p, &[h.len(), phi.len(), room]))?;
     refuse(7, message.len() != message_bytes(p.n))?;
     refuse(12, !reduced_q(h, q))?;
-    refuse(10, !units_of_sum_zero(phi, p.s))?;
+    refuse(10, !whole_triples(phi, p.s))?;
     refuse(15, spare_bit_set(p.n, message))?;
     let phi = coefficients(phi);
     let doubled: Vec<Value> = phi.iter().map(|&value| multiply((2, 0), value)).collect();
@@ -259,7 +263,7 @@ fn check_places(p: Parameters, places: &[PlacedUnit]) -> Result<(), u32> {
         later.iter().any(|other| other.place == record.place)
     };
     refuse(24, places.iter().enumerate().any(occurs_again))?;
-    refuse(10, !units_of_sum_zero(&spread(p.n, places), p.s))
+    refuse(10, !whole_triples(&spread(p.n, places), p.s))
 }
 
 pub fn seal_places(
@@ -392,7 +396,7 @@ fn check_arrays(kind: Kind, p: Parameters, numbers: &[i32]) -> Result<(), u32> {
             refuse(8, !units_only(arrays[0], p.t))?;
             refuse(11, !reduced_2(arrays[1]))?;
             refuse(12, !reduced_q(arrays[2], q))?;
-            refuse(9, !units_of_sum_zero(arrays[3], p.s))
+            refuse(9, !whole_triples(arrays[3], p.s))
         }
         Kind::Bundle => unreachable!("refusal 7 comes first"),
     }

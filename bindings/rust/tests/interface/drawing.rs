@@ -78,17 +78,26 @@ impl Rng {
         self.scattered(n, &units)
     }
 
-    /// s nonzero coefficients, each a unit, whose sum is zero: pairs u, −u and triples u, ωu, ω²u.
-    pub fn units_of_sum_zero(&mut self, n: u32, s: u32) -> Vec<i32> {
-        let mut units = Vec::new();
-        let pairs = 3 * self.count(0, s / 6);
-        for _ in 0..pairs {
-            let first = self.index(6);
-            units.extend([0, 3].map(|step| UNITS[(first + step) % 6]));
-        }
-        for _ in 0..(s - 2 * pairs) / 3 {
-            let first = self.index(6);
-            units.extend([0, 2, 4].map(|step| UNITS[(first + step) % 6]));
+    /// Whole triples of units: 1, ω, ω², or their negatives.
+    fn triples(&mut self, count: u32) -> Vec<Value> {
+        let triple = |_| self.one_of(&[[0, 2, 4], [3, 5, 1]]);
+        let numbers: Vec<[usize; 3]> = (0..count).map(triple).collect();
+        numbers.into_iter().flatten().map(|k| UNITS[k]).collect()
+    }
+
+    /// s nonzero coefficients, each a unit, in whole triples.
+    pub fn whole_triples(&mut self, n: u32, s: u32) -> Vec<i32> {
+        let units = self.triples(s / 3);
+        self.scattered(n, &units)
+    }
+
+    /// s nonzero coefficients, 6 or more, each a unit, whose sum is zero, but not in whole triples:
+    /// three pairs u, −u, of which two are alike, and triples.
+    pub fn pairs_and_triples(&mut self, n: u32, s: u32) -> Vec<i32> {
+        let (twice, once) = (self.index(6), self.index(6));
+        let mut units = self.triples(s / 3 - 2);
+        for k in [twice, twice, once] {
+            units.extend([UNITS[k], UNITS[(k + 3) % 6]]);
         }
         self.scattered(n, &units)
     }

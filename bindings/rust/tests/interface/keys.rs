@@ -183,7 +183,7 @@ impl Key {
                 f: array(&f),
                 f2: array(&all_remainders_2(&f2)),
                 fq: array(&fq),
-                g: rng.units_of_sum_zero(p.n, p.s),
+                g: rng.whole_triples(p.n, p.s),
             });
         }
         None

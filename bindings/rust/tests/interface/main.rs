@@ -13,3 +13,4 @@ mod random_keys;
 mod refusals;
 mod spoiled_calls;
 mod values;
+mod whole_triples;

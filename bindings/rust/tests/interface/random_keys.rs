@@ -28,7 +28,7 @@ fn one_key(rng: &mut Rng, key: &Key) {
             Ok(message)
         );
 
-        let phi = rng.units_of_sum_zero(n, p.s);
+        let phi = rng.whole_triples(n, p.s);
         let e = calls::seal(rng, p, &h, &phi, message, length).expect("all is in its set");
         let places = rng.places(&phi);
         let from_places = calls::seal_places(rng, p, &h, &places, message, length);

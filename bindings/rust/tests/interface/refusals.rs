@@ -420,7 +420,7 @@ fn refusal_08_f_not_in_its_set() {
 #[test]
 fn refusal_09_g_not_in_its_set() {
     let refusal = Refusal::GNotInItsSet;
-    // not three units, not units, and three units whose sum is not zero
+    // not three units, not units, and three units that are no triple; see whole_triples.rs too
     for g in [ONE, [1, -1, 1, 0, -2, 1], [1, 0, 1, 0, 1, 0]] {
         let mut h = [77; 6];
         is_refused(

@@ -34,7 +34,7 @@ struct Arguments {
 impl Arguments {
     fn draw(rng: &mut Rng, key: &Key) -> Arguments {
         let (p, n) = (key.p, key.p.n);
-        let phi = rng.units_of_sum_zero(n, p.s);
+        let phi = rng.whole_triples(n, p.s);
         Arguments {
             p,
             f: key.f.clone(),
@@ -65,6 +65,19 @@ impl Arguments {
         }
         if rng.once_in(6) {
             self.fq = rng.reduced_q(p);
+        }
+        if p.s >= 6 {
+            // the sum of each is zero
+            if rng.once_in(6) {
+                self.g = rng.pairs_and_triples(p.n, p.s);
+            }
+            if rng.once_in(6) {
+                self.phi = rng.pairs_and_triples(p.n, p.s);
+            }
+            if rng.once_in(6) {
+                let phi = rng.pairs_and_triples(p.n, p.s);
+                self.places = rng.places(&phi);
+            }
         }
         let arrays = [
             &mut self.f,
