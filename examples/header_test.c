@@ -254,8 +254,8 @@ static void try_bundles(void) {
 
 // ---- Records of places
 
-// The last place and the last unit that the header says, and one more of each. The other two units are those that have
-// the sum zero with unit 5, and stand at the first two places.
+// The last place and the last unit that the header says, and one more of each. The other two units are those of unit
+// 5's triple, and stand at the first two places.
 static void try_places(void) {
     struct etru_placed_unit list[] = {{0, 1}, {1, 3}, {n - 1, 5}};
     expect("a record is two numbers", sizeof list == 3 * 2 * sizeof(uint32_t), 1);
@@ -272,6 +272,20 @@ static void try_places(void) {
     list[2].place = 0;
     expect("place 0 twice", etru_spread_places(n, 15, 0, 3, 1, list, 3, out, ETRU_ARRAY_NUMBERS(n)),
            ETRU_PLACE_OCCURS_TWICE);
+}
+
+// ---- Whole triples
+
+// "units of sum zero need not be in whole triples": three 1 and three −1; and a triple with its negative, which are.
+static void try_triples(void) {
+    struct etru_placed_unit list[] = {{0, 0}, {1, 0}, {2, 0}, {3, 3}, {4, 3}, {5, 3}};
+    const uint32_t units[] = {0, 3, 2, 5, 4, 1};
+    expect("three 1 and three -1", etru_spread_places(6, 31, 0, 6, 1, list, 6, out, ETRU_ARRAY_NUMBERS(6)),
+           ETRU_PHI_NOT_IN_ITS_SET);
+    for (size_t k = 0; k < 6; k++) {
+        list[k].unit = units[k];
+    }
+    expect("each unit once", etru_spread_places(6, 31, 0, 6, 1, list, 6, out, ETRU_ARRAY_NUMBERS(6)), ETRU_OK);
 }
 
 // ---- Limits
@@ -314,6 +328,7 @@ int main(void) {
     try_places();
     try_bundles();
     try_macros();
+    try_triples();
     try_limits();
     printf("%u passed, %u failed\n", passed, failed);
     return failed != 0;

@@ -101,8 +101,9 @@ static void make_message(uint32_t n) {
     message[count - 1] = (uint8_t)(message[count - 1] >> spare << spare);
 }
 
-// An ephemeral of the right set: (1,0), (0,1), (-1,-1), three units whose sum is zero, over and over in the first s
-// coefficients. It is always the same here; a real planner draws its places and units at random for each message.
+// An ephemeral of the right set: the triple (1,0), (0,1), (-1,-1), which is 1, ω, ω², over and over in the first s
+// coefficients. It is always the same here; a real planner draws its places, and for each triple whether it is this one
+// or its negative, at random for each message.
 static void make_phi(uint32_t s) {
     static const int32_t units[6] = {1, 0, 0, 1, -1, -1};
     for (size_t i = 0; i < 2 * (size_t)s; i++) {
