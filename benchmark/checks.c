@@ -59,13 +59,23 @@ bool units_only(size_t n, const int32_t *x, size_t count) {
     return units == count;
 }
 
-bool units_of_sum_zero(size_t n, const int32_t *x, size_t count) {
-    int64_t a = 0, b = 0;
+// How many coefficients are the value (a, b).
+static size_t count_value(size_t n, const int32_t *x, int32_t a, int32_t b) {
+    size_t found = 0;
     for (size_t i = 0; i < n; i++) {
-        a += x[2 * i];
-        b += x[2 * i + 1];
+        found += (x[2 * i] == a) & (x[2 * i + 1] == b);
     }
-    return a == 0 && b == 0 && units_only(n, x, count);
+    return found;
+}
+
+// Whether there are equally many of 1, ω and ω², times `sign`, which is 1 or −1.
+static bool equally_many(size_t n, const int32_t *x, int32_t sign) {
+    size_t found = count_value(n, x, 0, sign);
+    return count_value(n, x, sign, 0) == found && found == count_value(n, x, -sign, -sign);
+}
+
+bool whole_triples(size_t n, const int32_t *x, size_t count) {
+    return units_only(n, x, count) && equally_many(n, x, 1) && equally_many(n, x, -1);
 }
 
 bool spare_bit_set(size_t n, const uint8_t *message) {

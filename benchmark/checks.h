@@ -11,9 +11,9 @@
 bool reduced_modulo_q(size_t n, struct value q, const int32_t *x);
 bool reduced_modulo_2(size_t n, const int32_t *x);
 
-// Exactly `count` nonzero coefficients, each a unit; and that their sum is zero.
+// Exactly `count` nonzero coefficients, each a unit; and in whole triples.
 bool units_only(size_t n, const int32_t *x, size_t count);
-bool units_of_sum_zero(size_t n, const int32_t *x, size_t count);
+bool whole_triples(size_t n, const int32_t *x, size_t count);
 
 bool spare_bit_set(size_t n, const uint8_t *message);
 

@@ -14,16 +14,16 @@
 #define MAX_NUMBERS ETRU_ARRAY_NUMBERS(ETRU_MAX_N)
 #define MAX_BYTES ETRU_MESSAGE_BYTES(ETRU_MAX_N)
 
-// Units at random places, as many as `count`; their sum may be asked to be zero, and then they are a multiple of 3.
-// Unit k times unit 2, which is ω, is unit k + 2, so units k, k + 2 and k + 4 have the sum zero.
-static inline void draw_units(const struct parameters *p, int32_t *x, size_t count, bool sum_zero) {
+// Units at random places, as many as `count`; they may be asked to be whole triples, and then they are a multiple of 3.
+// Unit k times unit 2, which is ω, is unit k + 2, so units k, k + 2 and k + 4 are a triple.
+static inline void draw_units(const struct parameters *p, int32_t *x, size_t count, bool in_triples) {
     static const struct value units[6] = {{1, 0}, {1, 1}, {0, 1}, {-1, 0}, {-1, -1}, {0, -1}};
     uint16_t places[ETRU_MAX_N];
     uint32_t number = 0;
     shuffle(places, (uint32_t)p->n);
     memset(x, 0, MAX_NUMBERS * sizeof x[0]);
     for (size_t k = 0; k < count; k++) {
-        number = sum_zero && k % 3 != 0 ? number + 2 : random_below(6);
+        number = in_triples && k % 3 != 0 ? number + 2 : random_below(6);
         set_coefficient(x, places[k], units[number % 6]);
     }
 }

@@ -121,7 +121,7 @@ uint32_t rotations_seal(unit_product *multiply, const struct parameters *p, cons
     if (!reduced_modulo_q(p->n, modulus(p), h)) {
         return ETRU_NOT_REDUCED_MODULO_Q;
     }
-    if (!units_of_sum_zero(p->n, phi, p->s)) {
+    if (!whole_triples(p->n, phi, p->s)) {
         return ETRU_PHI_NOT_IN_ITS_SET;
     }
     if (spare_bit_set(p->n, message)) {
