@@ -68,14 +68,14 @@ pub(crate) fn count_nonzero(x: &[i32], n: usize) -> usize
 }
 
 // How many coefficients are unit k.
-fn count_unit(x: &[i32], n: usize, k: usize) -> usize
+fn count_unit(x: &[i32], n: usize, k: usize) -> u32
     requires { ⌜ (n < 2 ^ 32) × (length (now x) ≡ 2 * n) × (k < 6) ⌝ }
     ensures { λ r. ⌜ r ≡ unitCount n (coefficient (now (x .entry))) k ⌝ }
 {
     let u = eisenstein::unit(k);
     let a = u.a;
     let b = u.b;
-    let mut found: usize = 0;
+    let mut found: u32 = 0;
     let mut i = 0;
     while i < n {
         if equal_at(x, i, a, b) {
