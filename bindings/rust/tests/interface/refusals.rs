@@ -745,7 +745,7 @@ fn the_first_refusal_of_places_is_given() {
         is_refused(given, refusal, number);
         assert_eq!(e, [77; 6]);
     };
-    // the sum of the units is zero in none of these lists
+    // the units of none of these lists are a triple
     let all = places([0, 0, 3], [0, 0, 0]);
     check(&[9; 6], &all[..2], Refusal::WrongLength, 7);
     check(&[9; 6], &all, Refusal::NotReducedModuloQ, 12);
@@ -758,8 +758,8 @@ fn the_first_refusal_of_places_is_given() {
     check(&TRIPLE, &wrong_unit, Refusal::PlaceOrUnitOutOfRange, 23);
     let twice = places([0, 1, 0], [0, 0, 0]);
     check(&TRIPLE, &twice, Refusal::PlaceOccursTwice, 24);
-    let not_zero = places([0, 1, 2], [0, 0, 0]);
-    check(&TRIPLE, &not_zero, Refusal::PhiNotInItsSet, 10);
+    let no_triple = places([0, 1, 2], [0, 0, 0]);
+    check(&TRIPLE, &no_triple, Refusal::PhiNotInItsSet, 10);
     check(&TRIPLE, &PLACES, Refusal::SpareBitSet, 15);
 }
 
