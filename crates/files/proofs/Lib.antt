@@ -5,3 +5,4 @@ pub mod Passed
 pub mod SmallArrays
 pub mod HeadTrips
 pub mod RoundTrips
+pub mod PrivateFiles

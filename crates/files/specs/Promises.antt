@@ -1,15 +1,18 @@
--- What is promised of files, each proved in proofs/RoundTrips.antt, for every kind and every accepted input.
+-- What is promised of files: both round trips, for every kind and every accepted input, proved in proofs/RoundTrips.antt, and where a private file meets 9, proved in proofs/PrivateFiles.antt.
 use mathlib.Core.Path.{_≡_}
-use mathlib.Core.List.{List}
+use mathlib.Core.Bool.{true, false}
+use mathlib.Core.List.{List, [], _∷_, _++_}
 use Prim.Native.Nat.{ℕ}
 use lib.IntN.{ℤ}
-use lib.ListN.{length}
-use Rattle.refusals.specs.Outcomes.{done}
-use Rattle.parameters.specs.Sets.{ParameterSet}
+use lib.ListN.{length, take}
+use Rattle.refusals.specs.Outcomes.{done, outcome, _if_}
+use Rattle.parameters.specs.Sets.{ParameterSet, parameterChecks}
+use Rattle.polynomials.specs.Polynomials.{coefficient, wholeTriples}
 use Rattle.packing.specs.Promises.{Bytes}
 use Rattle.heads.specs.Heads.{headOf}
-use Rattle.head_reading.specs.Calls.{readingHead}
-use Rattle.files.specs.Calls.{reading, writing}
+use Rattle.head_reading.specs.Calls.{headChecks, readingHead}
+use Rattle.files.specs.Files.{numbersOf, arrayAt}
+use Rattle.files.specs.Calls.{storedChecks, reading, givenChecks, writing}
 
 -- What is written reads back to the same parameters and the same numbers.
 abbrev pub Reading-undoes-writing : Type 0
@@ -24,3 +27,14 @@ Writing-undoes-reading =
 -- What is written are bytes.
 abbrev pub Written-bytes : Type 0
 Written-bytes = (kind : ℕ) (p : ParameterSet) (numbers : List ℤ) (room : ℕ) (file : List ℕ) → writing kind p numbers room ≡ done file → Bytes file
+
+-- Document 02's wish 3, "Other inputs now meet 9 or 10 at their present places": 9 after 7, 8, 11 and 12, of a private file whose g, the fourth of its arrays, is not in whole triples.
+abbrev pub Other-g-not-read : Type 0
+Other-g-not-read =
+    (file : List ℕ) (room : ℕ) → wholeTriples (headOf file .N) (headOf file .s) (coefficient (arrayAt (headOf file) 3 (numbersOf file))) ≡ false
+    → reading 2 file room ≡ outcome (headChecks 2 file ++ (parameterChecks (headOf file) ++ (take 4 (storedChecks 2 (headOf file) file room) ++ 9 if true ∷ []))) []
+
+abbrev pub Other-g-not-written : Type 0
+Other-g-not-written =
+    (p : ParameterSet) (numbers : List ℤ) (room : ℕ) → wholeTriples (p .N) (p .s) (coefficient (arrayAt p 3 numbers)) ≡ false
+    → writing 2 p numbers room ≡ outcome (parameterChecks p ++ (take 4 (givenChecks 2 p numbers room) ++ 9 if true ∷ [])) []

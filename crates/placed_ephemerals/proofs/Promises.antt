@@ -7,7 +7,7 @@ use native.Mathlib.Omega.{arith}
 use borrow.Author.Tests.{eq-eqb, ne-eqb}
 use lib.Dec.{T, eqb}
 use lib.IntN.{ℤ}
-use lib.ListN.{length}
+use lib.ListN.{length, take}
 use mir.Facts.{and-yes}
 use Rattle.integers.proofs.Tests.{equal-2, equal-4, are-equal-2, are-equal-4, and-false}
 use Rattle.refusals.specs.Outcomes.{Check, done, unless, outcome, _if_}
@@ -30,7 +30,7 @@ use Rattle.integers.proofs.Orders.{length-order}
 use Rattle.placed_units.proofs.Orders.{out-of-range-order, twice-order, spread-order}
 use Rattle.placed_units.proofs.PlacesOf.{placesBelow, places-length, places-once, places-in-range, places-spread}
 use Rattle.placed_ephemerals.specs.Calls.{placeChecks, spreadingChecks, spreading, placesSealingChecks, placesSealing}
-use Rattle.placed_ephemerals.specs.Promises.{Sealing-from-places, Other-length-refused, SameRecords, Spreading-order-open, Sealing-order-open, PlacedEphemeral, Spreading-accepts, Spreading-accepted, Sealing-accepts, Sealing-accepted, Every-ephemeral-has-places}
+use Rattle.placed_ephemerals.specs.Promises.{Sealing-from-places, Other-length-refused, Other-units-refused, SameRecords, Spreading-order-open, Sealing-order-open, PlacedEphemeral, Spreading-accepts, Spreading-accepted, Sealing-accepts, Sealing-accepted, Every-ephemeral-has-places}
 use Rattle.placed_ephemerals.proofs.Agreeing.{same-sealed}
 
 -- ---- outcomes
@@ -77,6 +77,18 @@ other-length-refused p h places message room other = (both (eqb (length message)
     both before after cs a =
         same-first (parameterChecks p) _ _ _ _ (λ accepted.
         fails-refused 7 (before && (eqb (length places) (p .s) && after)) cs a (ap (λ (t : Bool). before && (t && after)) not-s ∙ and-false before) ∙ sym (refused-by 7 [] [] refl))
+
+-- ---- triples that are not whole
+
+pub other-units-refused : Other-units-refused
+unfolding placesSealing placesSealingChecks spreading spreadingChecks
+other-units-refused p h places message room other = (
+  same-first (parameterChecks p) _ _ _ _ (λ accepted. same-first (take 4 (placesSealingChecks p h places message room)) _ _ _ _ (λ before. refused-10 _ _)),
+  same-first (parameterChecks p) _ _ _ _ (λ accepted. same-first (take 3 (spreadingChecks p places room)) _ _ _ _ (λ before. refused-10 _ _)),
+)
+  where
+    refused-10 : (cs : List Check) (a : List ℤ) → outcome (10 if not (wholeTriples (p .N) (p .s) (spread places)) ∷ cs) a ≡ outcome (10 if true ∷ []) []
+    refused-10 cs a = fails-refused 10 (wholeTriples (p .N) (p .s) (spread places)) cs a other ∙ sym (refused-by 10 [] [] refl)
 
 -- ---- the order of the records
 

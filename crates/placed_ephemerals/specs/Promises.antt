@@ -1,12 +1,12 @@
--- What document 02's wish 1 promises of sealing from places, for all inputs; each is proved in proofs/Promises.antt.
+-- What document 02's wish 1 promises of sealing from places, and wish 3 of the units of its lists, for all inputs; each is proved in proofs/Promises.antt.
 use mathlib.Core.Path.{_≡_}
-use mathlib.Core.Bool.{true, not}
+use mathlib.Core.Bool.{true, false, not}
 use mathlib.Core.List.{List, [], _∷_, _++_, List·Permᴰ}
 use mathlib.Core.Logic.{_≢_}
 use Prim.Native.Nat.{ℕ, _*_}
 use lib.Dec.{T}
 use lib.IntN.{ℤ}
-use lib.ListN.{length}
+use lib.ListN.{length, take}
 use Rattle.refusals.specs.Outcomes.{done, outcome, _if_, Passes}
 use Rattle.parameters.specs.Sets.{ParameterSet, parameterChecks}
 use Rattle.polynomials.specs.Polynomials.{coefficient, array, wholeTriples, reducedQ}
@@ -16,7 +16,7 @@ use Rattle.etru.specs.Calls.{sealing}
 use Rattle.etru.specs.Demand3.{Ephemeral, Message}
 use Rattle.placed_units.specs.declared.PlacedUnit.{PlacedUnit}
 use Rattle.placed_units.specs.PlacedUnits.{anyOutOfRange, anyPlaceTwice, spread}
-use Rattle.placed_ephemerals.specs.Calls.{spreading, placesSealing}
+use Rattle.placed_ephemerals.specs.Calls.{spreadingChecks, spreading, placesSealingChecks, placesSealing}
 
 -- A list of s records that 23 and 24 do not refuse.
 pub record Spreadable (p : ParameterSet) (places : List PlacedUnit) : Type 0 where
@@ -31,6 +31,13 @@ Sealing-from-places = (p : ParameterSet) (h : List ℤ) (places : List PlacedUni
 -- "The list has s records, else refusal 7": the first refusal of another list is 7, unless the parameters have one.
 abbrev pub Other-length-refused : Type 0
 Other-length-refused = (p : ParameterSet) (h : List ℤ) (places : List PlacedUnit) (message : List ℕ) (room : ℕ) → length places ≢ p .s → (placesSealing p h places message room ≡ outcome (parameterChecks p ++ 7 if true ∷ []) []) × (spreading p places room ≡ outcome (parameterChecks p ++ 7 if true ∷ []) [])
+
+-- Wish 3, "Other inputs now meet 9 or 10 at their present places": 10 after 7, 12, 23 and 24, of a list whose triples are not whole.
+abbrev pub Other-units-refused : Type 0
+Other-units-refused =
+    (p : ParameterSet) (h : List ℤ) (places : List PlacedUnit) (message : List ℕ) (room : ℕ) → wholeTriples (p .N) (p .s) (spread places) ≡ false
+    → (placesSealing p h places message room ≡ outcome (parameterChecks p ++ (take 4 (placesSealingChecks p h places message room) ++ 10 if true ∷ [])) [])
+    × (spreading p places room ≡ outcome (parameterChecks p ++ (take 3 (spreadingChecks p places room) ++ 10 if true ∷ [])) [])
 
 -- "their order is open": the same records in another order have the same outcome, also where it is a refusal.
 abbrev pub SameRecords : (places places′ : List PlacedUnit) → Type 0
