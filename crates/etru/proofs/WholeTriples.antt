@@ -1,8 +1,6 @@
 -- What wish 3 says of the key check and of sealing.
-use mathlib.Core.Path.{refl, sym, _∙_}
-use mathlib.Core.List.{[], _++_}
 use lib.ListN.{take}
-use Rattle.refusals.proofs.Checks.{refused-by, fails-refused, same-first, done-all, done-holds}
+use Rattle.refusals.proofs.Checks.{same-first, ends-at, done-all, done-holds}
 use Rattle.parameters.specs.Sets.{parameterChecks}
 use Rattle.polynomials.specs.Polynomials.{coefficient, wholeTriples}
 use Rattle.polynomials.proofs.WholeTriples.{members-are-whole}
@@ -24,13 +22,9 @@ accepted-φ-whole p h φ e message room d =
 pub other-g-refused : Other-g-refused
 unfolding keyCheck keyChecks
 other-g-refused p f F2 Fq g room other =
-    same-first (parameterChecks p) _ _ _ _ (λ _.
-    same-first (take 4 (keyArrayChecks p f F2 Fq g room)) _ _ _ _ (λ _.
-    fails-refused 9 (wholeTriples (p .N) (p .s) (coefficient g)) _ _ other ∙ sym (refused-by 9 [] [] refl)))
+    same-first (parameterChecks p) _ _ _ _ (λ _. ends-at (take 4 (keyArrayChecks p f F2 Fq g room)) 9 (wholeTriples (p .N) (p .s) (coefficient g)) _ _ _ other)
 
 pub other-φ-refused : Other-φ-refused
 unfolding sealing sealingChecks
 other-φ-refused p h φ message room other =
-    same-first (parameterChecks p) _ _ _ _ (λ _.
-    same-first (take 2 (sealingChecks p h φ message room)) _ _ _ _ (λ _.
-    fails-refused 10 (wholeTriples (p .N) (p .s) (coefficient φ)) _ _ other ∙ sym (refused-by 10 [] [] refl)))
+    same-first (parameterChecks p) _ _ _ _ (λ _. ends-at (take 2 (sealingChecks p h φ message room)) 10 (wholeTriples (p .N) (p .s) (coefficient φ)) _ _ _ other)

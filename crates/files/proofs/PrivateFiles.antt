@@ -1,5 +1,5 @@
 -- A private file whose g is not in whole triples meets 9, in reading and in writing.
-use mathlib.Core.Path.{_≡_, refl, sym, _∙_, ap}
+use mathlib.Core.Path.{_≡_, refl, _∙_, ap}
 use mathlib.Core.Bool.{true, false}
 use mathlib.Core.List.{List, [], _∷_, _++_}
 use Prim.Native.Nat.{ℕ, _+_, _*_}
@@ -8,7 +8,7 @@ use lib.IntN.{ℤ}
 use lib.ListN.{take, drop}
 use lib.Seq.{drop-drop}
 use Rattle.refusals.specs.Outcomes.{outcome, _if_}
-use Rattle.refusals.proofs.Checks.{refused-by, passed, fails-refused, same-first}
+use Rattle.refusals.proofs.Checks.{passed, same-first, ends-at}
 use Rattle.parameters.specs.Sets.{ParameterSet, parameterChecks}
 use Rattle.polynomials.specs.Polynomials.{coefficient, wholeTriples}
 use Rattle.heads.specs.Kinds.{arraysOf}
@@ -29,9 +29,7 @@ fourth p l =
 module _ (p : ParameterSet) (l : List ℤ) (other : wholeTriples (p .N) (p .s) (coefficient (arrayAt p 3 l)) ≡ false) {A : Type 0} (a a′ : A) (numbers file : ℕ) where
   refused-9 : outcome (contentChecks 2 p l numbers file) a ≡ outcome (take 4 (contentChecks 2 p l numbers file) ++ 9 if true ∷ []) a′
   unfolding contentChecks setChecks arraysOf
-  refused-9 =
-      same-first (take 4 (contentChecks 2 p l numbers file)) _ _ _ _ (λ before.
-      fails-refused 9 _ _ _ (ap (λ (x : List ℤ). wholeTriples (p .N) (p .s) (coefficient x)) (fourth p l) ∙ other) ∙ sym (refused-by 9 [] a′ refl))
+  refused-9 = ends-at (take 4 (contentChecks 2 p l numbers file)) 9 _ _ a a′ (ap (λ (x : List ℤ). wholeTriples (p .N) (p .s) (coefficient x)) (fourth p l) ∙ other)
 
 pub other-g-not-read : Other-g-not-read
 unfolding reading readingChecks

@@ -11,7 +11,7 @@ use lib.ListN.{length, take}
 use mir.Facts.{and-yes}
 use Rattle.integers.proofs.Tests.{equal-2, equal-4, are-equal-2, are-equal-4, and-false}
 use Rattle.refusals.specs.Outcomes.{Check, done, unless, outcome, _if_}
-use Rattle.refusals.proofs.Checks.{refused-by, passed, holds-passed, fails-refused, none-left, passed-all, same-first, done-all, done-passed, done-holds, done-value}
+use Rattle.refusals.proofs.Checks.{refused-by, passed, holds-passed, none-left, passed-all, same-first, ends-at, done-all, done-passed, done-holds, done-value}
 use Rattle.eisenstein.specs.Values.{units}
 use Rattle.parameters.specs.Sets.{ParameterSet, parameterChecks}
 use Rattle.polynomials.specs.Polynomials.{Polynomial, coefficient, array, count, nonzero, among, unitsOnly, wholeTriples, reducedQ}
@@ -75,20 +75,17 @@ other-length-refused p h places message room other = (both (eqb (length message)
 
     both : (before after : Bool) (cs : List Check) (a : List ℤ) → outcome (parameterChecks p ++ (7 if not (before && (eqb (length places) (p .s) && after)) ∷ cs)) a ≡ outcome (parameterChecks p ++ (7 if true ∷ [])) []
     both before after cs a =
-        same-first (parameterChecks p) _ _ _ _ (λ accepted.
-        fails-refused 7 (before && (eqb (length places) (p .s) && after)) cs a (ap (λ (t : Bool). before && (t && after)) not-s ∙ and-false before) ∙ sym (refused-by 7 [] [] refl))
+        ends-at (parameterChecks p) 7 (before && (eqb (length places) (p .s) && after)) cs a [] (ap (λ (t : Bool). before && (t && after)) not-s ∙ and-false before)
 
 -- ---- triples that are not whole
 
 pub other-units-refused : Other-units-refused
 unfolding placesSealing placesSealingChecks spreading spreadingChecks
-other-units-refused p h places message room other = (
-  same-first (parameterChecks p) _ _ _ _ (λ accepted. same-first (take 4 (placesSealingChecks p h places message room)) _ _ _ _ (λ before. refused-10 _ _)),
-  same-first (parameterChecks p) _ _ _ _ (λ accepted. same-first (take 3 (spreadingChecks p places room)) _ _ _ _ (λ before. refused-10 _ _)),
-)
-  where
-    refused-10 : (cs : List Check) (a : List ℤ) → outcome (10 if not (wholeTriples (p .N) (p .s) (spread places)) ∷ cs) a ≡ outcome (10 if true ∷ []) []
-    refused-10 cs a = fails-refused 10 (wholeTriples (p .N) (p .s) (spread places)) cs a other ∙ sym (refused-by 10 [] [] refl)
+other-units-refused p h places message room other =
+    let whole = wholeTriples (p .N) (p .s) (spread places) in (
+      same-first (parameterChecks p) _ _ _ _ (λ accepted. ends-at (take 4 (placesSealingChecks p h places message room)) 10 whole _ _ _ other),
+      same-first (parameterChecks p) _ _ _ _ (λ accepted. ends-at (take 3 (spreadingChecks p places room)) 10 whole _ _ _ other),
+    )
 
 -- ---- the order of the records
 
