@@ -169,10 +169,10 @@ fn units_only(x: &[i32], count: u32) -> bool {
 
 /// Document 02: "equally many of units 0, 2 and 4, and equally many of units 1, 3 and 5"
 fn whole_triples(x: &[i32], count: u32) -> bool {
-    let x = coefficients(x);
+    let values = coefficients(x);
     let [k0, k1, k2, k3, k4, k5] =
-        UNITS.map(|unit| x.iter().filter(|&&value| value == unit).count());
-    units_only(&array(&x), count) && k0 == k2 && k2 == k4 && k1 == k3 && k3 == k5
+        UNITS.map(|unit| values.iter().filter(|&&value| value == unit).count());
+    units_only(x, count) && k0 == k2 && k2 == k4 && k1 == k3 && k3 == k5
 }
 
 // ---- Calls on a parameter set

@@ -293,7 +293,7 @@ fn write_sealed() {
 }
 
 /// The bytes of a file with these parts, right or wrong.
-fn file_of(kind: u8, p: Parameters, numbers: &[i32]) -> Vec<u8> {
+pub fn file_of(kind: u8, p: Parameters, numbers: &[i32]) -> Vec<u8> {
     let mut file = vec![b'E', b'I', b'Z', 0, 1, kind];
     file.extend(stored(&[p.n as i32, p.c, p.d, p.s as i32, p.t as i32]));
     file.extend(stored(numbers));

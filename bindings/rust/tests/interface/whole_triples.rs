@@ -1,11 +1,12 @@
 //! Document 02: "g and φ must hold equally many of units 0, 2 and 4, and equally many of units 1, 3
 //! and 5", and other inputs, also of sum zero, meet 9 or 10.
 
-use etru::{Error, Kind, Parameters, PlacedUnit, Refusal};
+use etru::{Kind, Parameters, PlacedUnit};
 
 use crate::calls;
 use crate::definitions::{array, UNITS};
 use crate::drawing::Rng;
+use crate::spoiled_calls::file_of;
 
 const SIX: Parameters = Parameters {
     n: 6,
@@ -29,74 +30,46 @@ fn laid_out(units: [u32; 6]) -> (Vec<i32>, [PlacedUnit; 6]) {
     (array(&units.map(|unit| UNITS[unit as usize])), places)
 }
 
-fn refused<T>(given: Result<T, Error>) -> Option<Refusal> {
-    match given {
-        Err(Error::Refused(refusal)) => Some(refusal),
-        _ => None,
-    }
-}
-
-/// The file of these numbers, right or wrong.
-fn file(kind: Kind, numbers: &[i32]) -> Vec<u8> {
-    let mut file = vec![b'E', b'I', b'Z', 0, 1, kind as u8];
-    file.extend([0, 6, 0, 31, 0, 0, 0, 6, 0, 1]);
-    let halves = numbers.iter().map(|&number| number as i16);
-    file.extend(halves.flat_map(i16::to_be_bytes));
-    file
-}
-
-/// The program's line for this private file and a sealed one of zeros.
-fn line(private: &[u8]) -> Vec<u8> {
-    let input = [private, &file(Kind::Sealed, &[0; 12])].concat();
-    let mut room = [0; etru::LINE_BYTES];
-    let line = etru::open_files(&input, &mut room).expect("515 bytes are lent");
-    line.to_vec()
+/// The program's input: the private file with this g, right or wrong, and a sealed file of zeros.
+fn input(g: &[i32]) -> Vec<u8> {
+    let private = file_of(2, SIX, &[&ONE[..], &ONE, &ONE, g].concat());
+    [private, file_of(3, SIX, &[0; 12])].concat()
 }
 
 /// As g these units meet 9 in the key check, in files and in the program, and as φ 10.
 fn are_refused(units: [u32; 6]) {
+    let rng = &mut Rng::new(61);
     let (x, places) = laid_out(units);
-    let mut out = [77; 12];
-    let g_refused = Some(Refusal::GNotInItsSet);
-    let checked = etru::check_key(SIX, &ONE, &ONE, &ONE, &x, &mut out);
-    assert_eq!(refused(checked), g_refused);
+    let checked = calls::check_key(rng, SIX, [&ONE, &ONE, &ONE, &x], 12);
+    assert_eq!(checked, Err(9));
     let numbers = [&ONE[..], &ONE, &ONE, &x].concat();
-    let (mut read, mut written) = ([77; 48], [77; 112]);
-    let given = etru::write(Kind::Private, SIX, &numbers, &mut written);
-    assert_eq!(refused(given), g_refused);
-    let private = file(Kind::Private, &numbers);
-    let given = etru::read(Kind::Private, &private, &mut read);
-    assert_eq!(refused(given), g_refused);
-    assert_eq!((read, written), ([77; 48], [77; 112]));
-    assert_eq!(line(&private), b"9 -\n");
+    let written = calls::write(rng, Kind::Private, SIX, &numbers, 112);
+    assert_eq!(written, Err(9));
+    let read = calls::read(rng, Kind::Private, &file_of(2, SIX, &numbers), 48);
+    assert_eq!(read, Err(9));
+    assert_eq!(calls::open_files(rng, &input(&x)), b"9 -\n");
 
-    let phi_refused = Some(Refusal::PhiNotInItsSet);
     let h = laid_out([0, 2, 4, 0, 2, 4]).0;
-    let sealed = etru::seal(SIX, &h, &x, &MESSAGE, &mut out);
-    assert_eq!(refused(sealed), phi_refused);
-    let sealed = etru::seal_places(SIX, &h, &places, &MESSAGE, &mut out);
-    assert_eq!(refused(sealed), phi_refused);
-    let spread = etru::spread_places(SIX, &places, &mut out);
-    assert_eq!(refused(spread), phi_refused);
-    assert_eq!(out, [77; 12]);
+    let sealed = calls::seal(rng, SIX, &h, &x, &MESSAGE, 12);
+    assert_eq!(sealed, Err(10));
+    let sealed = calls::seal_places(rng, SIX, &h, &places, &MESSAGE, 12);
+    assert_eq!(sealed, Err(10));
+    let spread = calls::spread_places(rng, SIX, &places, 12);
+    assert_eq!(spread, Err(10));
 }
 
 /// They are a g and a φ, and what is sealed with them opens.
 fn are_accepted(units: [u32; 6]) {
+    let rng = &mut Rng::new(62);
     let (x, places) = laid_out(units);
-    let mut h = [77; 12];
-    let checked = etru::check_key(SIX, &ONE, &ONE, &ONE, &x, &mut h);
-    assert_eq!((checked, &h[..]), (Ok(()), &x[..]));
-    let numbers = [&ONE[..], &ONE, &ONE, &x].concat();
-    assert_eq!(line(&file(Kind::Private, &numbers)), b"0 0000\n");
-    let (mut e, mut from_places) = ([77; 12], [77; 12]);
-    let sealed = etru::seal(SIX, &h, &x, &MESSAGE, &mut e);
-    assert_eq!(sealed, Ok(()));
-    let sealed = etru::seal_places(SIX, &h, &places, &MESSAGE, &mut from_places);
-    assert_eq!((sealed, from_places), (Ok(()), e));
-    let mut message = [77; 2];
-    let opened = etru::open(SIX, &ONE, &ONE, &e, &mut message);
-    assert_eq!((opened, message), (Ok(()), MESSAGE));
+    let h = calls::check_key(rng, SIX, [&ONE, &ONE, &ONE, &x], 12);
+    assert_eq!(h.as_ref(), Ok(&x));
+    assert_eq!(calls::open_files(rng, &input(&x)), b"0 0000\n");
+    let e = calls::seal(rng, SIX, &x, &x, &MESSAGE, 12).expect("they are in whole triples");
+    let from_places = calls::seal_places(rng, SIX, &x, &places, &MESSAGE, 12);
+    assert_eq!(from_places.as_ref(), Ok(&e));
+    let opened = calls::open(rng, SIX, &ONE, &ONE, &e, 2);
+    assert_eq!(opened, Ok(MESSAGE.to_vec()));
 }
 
 /// "a g with three coefficients 1 and three −1"
@@ -119,7 +92,6 @@ fn a_triple_and_three_other_units_are_refused() {
     are_refused([0, 2, 4, 1, 1, 1]);
     are_refused([0, 2, 4, 3, 5, 5]);
     are_refused([1, 3, 5, 0, 0, 2]);
-    // each unit of the other class
     are_refused([0, 0, 0, 1, 3, 5]);
 }
 
@@ -132,10 +104,10 @@ fn whole_triples_are_accepted() {
     are_accepted([0, 3, 2, 5, 4, 1]);
 }
 
-/// Units of sum zero, so many and at so many places.
+/// Units of sum zero, with many N and s.
 #[test]
 fn pairs_are_refused() {
-    let mut rng = Rng::new(39);
+    let mut rng = Rng::new(63);
     for _ in 0..2000 {
         let n = rng.count(6, 40);
         let s = 3 * rng.count(2, n / 3);
