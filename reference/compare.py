@@ -314,7 +314,7 @@ def random_keys(results, library, rng):
 
 
 def choices_of_units(s):
-    """Each choice of s units, by their numbers, and whether it is made of 1, ω, ω² and their negatives alone."""
+    """Each choice of s units, by their numbers, and whether it is made of triples: 1, ω, ω², or their negatives."""
     made = {tuple(sorted([0, 2, 4] * k + [1, 3, 5] * (s // 3 - k))) for k in range(s // 3 + 1)}
     return [(list(units), units in made) for units in itertools.combinations_with_replacement(range(6), s)]
 

@@ -162,7 +162,7 @@ def with_units(units):
 
 
 def pairs_for_triples(rng, s):
-    """Changes that give a list units of sum zero whose triples are not whole, if it has six records."""
+    """Changes that give a list units of sum zero whose triples are not whole, if it has six records or more."""
     return [with_units(units_in_pairs(rng, s)) for _ in range(6 if s >= 6 else 0)]
 
 
@@ -173,7 +173,7 @@ def length_changes(rng, case):
     lists = [places[:-1], places[1:], places + places[:1], places + places, places + [(n, 0)], [(0, 6)] + places]
     lists += [[], places[:1], [(n, 6)] * (s - 1), [(0, 0)] * (s + 1)]
     free = sorted(set(range(n)) - {place for place, _ in places})
-    # more records whose places are all different, and whose triples are whole
+    # more records whose places are all different: one more, and a whole triple more
     lists += [places + [(free[0], 0)]] if free else []
     lists += [places + [(place, 2 * k) for k, place in enumerate(free[:3])]] if len(free) >= 3 else []
     for count in (n, n + 1, 1023, 1024, 1025, 5000):
