@@ -60,8 +60,8 @@ bool units_only(size_t n, const int32_t *x, size_t count) {
 }
 
 // How many coefficients are the value (a, b).
-static size_t count_value(size_t n, const int32_t *x, int32_t a, int32_t b) {
-    size_t found = 0;
+static uint32_t count_value(size_t n, const int32_t *x, int32_t a, int32_t b) {
+    uint32_t found = 0;
     for (size_t i = 0; i < n; i++) {
         found += (x[2 * i] == a) & (x[2 * i + 1] == b);
     }
@@ -70,7 +70,7 @@ static size_t count_value(size_t n, const int32_t *x, int32_t a, int32_t b) {
 
 // Whether there are equally many of 1, ω and ω², times `sign`, which is 1 or −1.
 static bool equally_many(size_t n, const int32_t *x, int32_t sign) {
-    size_t found = count_value(n, x, 0, sign);
+    uint32_t found = count_value(n, x, 0, sign);
     return count_value(n, x, sign, 0) == found && found == count_value(n, x, -sign, -sign);
 }
 
