@@ -1,10 +1,12 @@
-// Answers handed on to single outputs: a remainder's parts, or a parameter set's numbers.
+// Answers handed on to single outputs: a remainder's parts, a parameter set's numbers, or a message's length.
 // It decides nothing. A refusal is its number alone, and writes to no output.
 ghost use Rattle.refusals.specs.Outcomes.{Gives};
 ghost use Rattle.eisenstein.specs.Values.{value};
 ghost use Rattle.eisenstein.specs.Calls.{answered};
 ghost use Rattle.parameters.specs.Sets.{set, made};
+ghost use Rattle.opened_arrays.specs.Answers.{answerOf};
 use eisenstein::Reduced;
+use opened_arrays::Opened;
 use parameters::Made;
 
 // Hands an answer on: a remainder to the outputs, or a refusal's number alone.
@@ -51,5 +53,18 @@ pub fn give_parameters(
             0
         }
         Made::Refused(refusal) => refusal.number(),
+    }
+}
+
+// Hands the length of a message on to the output, or a refusal's number alone.
+pub fn give_length(answer: Opened, used: &mut usize) -> u32
+    ensures { λ r. ⌜ Gives (answerOf answer) r (now (used .entry)) (now (used .exit)) ⌝ }
+{
+    match answer {
+        Opened::Message(length) => {
+            *used = length;
+            0
+        }
+        Opened::Refused(refusal) => refusal.number(),
     }
 }

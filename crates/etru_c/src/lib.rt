@@ -24,6 +24,8 @@ ghost use Rattle.bundles.specs.Bundles.{stopLength, storedAt};
 ghost use Rattle.bundles.specs.Calls.{bundleChecks, readingParameters, readingCount, readingStops, readingNumbers, writingBundle};
 ghost use Rattle.bundles.specs.Steps.{standsAt, nextAt, startOf};
 ghost use Rattle.entry_opening.specs.Calls.{openingEntry};
+ghost use Rattle.opened_arrays.specs.Answers.{lengthOf, over};
+ghost use Rattle.short_scheme.specs.Calls.{shortSealing, shortOpening};
 ghost use Rattle.opening.specs.Program.{lineWriting, lineLength};
 use parameters::Made;
 use parameters::Parameters;
@@ -166,6 +168,47 @@ pub extern "C" fn etru_open(
 {
     let p = Parameters { n, c, d, s, t };
     unsealing::open(p, f, f2, e, message).number()
+}
+
+// Seals a short message, to e.
+#[no_mangle]
+pub extern "C" fn etru_seal_short(
+    n: u32,
+    c: i32,
+    d: i32,
+    s: u32,
+    t: u32,
+    h: &[i32],
+    phi: &[i32],
+    message: &[u8],
+    e: &mut [i32],
+) -> u32
+    ensures { λ r. ⌜ Gives (shortSealing (set n c d s t) (now (h .entry)) (now (phi .entry)) (now (message .entry)) (length (now (e .entry)))) r (now (e .entry)) (now (e .exit)) ⌝ }
+{
+    let p = Parameters { n, c, d, s, t };
+    short_sealing::seal_short(p, h, phi, message, e).number()
+}
+
+// Opens a sealed array as a short message. It goes to the front of message, and its length to used; the bytes behind it are as they came.
+#[no_mangle]
+pub extern "C" fn etru_open_short(
+    n: u32,
+    c: i32,
+    d: i32,
+    s: u32,
+    t: u32,
+    f: &[i32],
+    f2: &[i32],
+    e: &[i32],
+    message: &mut [u8],
+    used: &mut usize,
+) -> u32
+    ensures { λ r. ⌜ Gives (lengthOf (shortOpening (set n c d s t) (now (f .entry)) (now (f2 .entry)) (now (e .entry)) (length (now (message .entry))))) r (now (used .entry)) (now (used .exit)) ⌝ }
+    ensures { λ _. ⌜ now (message .exit) ≡ over (shortOpening (set n c d s t) (now (f .entry)) (now (f2 .entry)) (now (e .entry)) (length (now (message .entry)))) (now (message .entry)) ⌝ }
+{
+    let p = Parameters { n, c, d, s, t };
+    let answer = short_opening::open_short(p, f, f2, e, message);
+    answer_outputs::give_length(answer, used)
 }
 
 // The polynomial that a message stands for, to m.

@@ -6,3 +6,4 @@ pub mod SmallArrays
 pub mod HeadTrips
 pub mod RoundTrips
 pub mod PrivateFiles
+pub mod ShortFiles

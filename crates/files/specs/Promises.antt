@@ -1,17 +1,17 @@
--- What is promised of files: both round trips, for every kind and every accepted input, proved in proofs/RoundTrips.antt, and where a private file meets 9, proved in proofs/PrivateFiles.antt.
+-- What is promised of files: both round trips, for every kind and every accepted input, proved in proofs/RoundTrips.antt, where a private file meets 9, proved in proofs/PrivateFiles.antt, and that kind 5 is laid out like kind 3, proved in proofs/ShortFiles.antt.
 use mathlib.Core.Path.{_≡_}
 use mathlib.Core.Bool.{true, false}
 use mathlib.Core.List.{List, [], _∷_, _++_}
 use Prim.Native.Nat.{ℕ}
 use lib.IntN.{ℤ}
-use lib.ListN.{length, take}
-use Rattle.refusals.specs.Outcomes.{done, outcome, _if_}
+use lib.ListN.{length, take, drop}
+use Rattle.refusals.specs.Outcomes.{done, outcome, number, _if_}
 use Rattle.parameters.specs.Sets.{ParameterSet, parameterChecks}
 use Rattle.polynomials.specs.Polynomials.{coefficient, wholeTriples}
 use Rattle.packing.specs.Promises.{Bytes}
 use Rattle.heads.specs.Heads.{headOf}
 use Rattle.head_reading.specs.Calls.{headChecks, readingHead}
-use Rattle.files.specs.Files.{numbersOf, arrayAt}
+use Rattle.files.specs.Files.{numbersOf, arrayAt, fileOf}
 use Rattle.files.specs.Calls.{storedChecks, reading, givenChecks, writing}
 
 -- What is written reads back to the same parameters and the same numbers.
@@ -38,3 +38,12 @@ abbrev pub Other-g-not-written : Type 0
 Other-g-not-written =
     (p : ParameterSet) (numbers : List ℤ) (room : ℕ) → wholeTriples (p .N) (p .s) (coefficient (arrayAt p 3 numbers)) ≡ false
     → writing 2 p numbers room ≡ outcome (parameterChecks p ++ (take 4 (givenChecks 2 p numbers room) ++ 9 if true ∷ [])) []
+
+-- Document 02's wish 4, "kind 5, laid out like kind 3": what is read and written is the same, but for byte 5, the kind, and so is what is refused.
+abbrev pub Short-read-like-sealed : Type 0
+Short-read-like-sealed = (b0 b1 b2 b3 b4 : ℕ) (rest : List ℕ) (room : ℕ) → reading 5 (b0 ∷ b1 ∷ b2 ∷ b3 ∷ b4 ∷ 5 ∷ rest) room ≡ reading 3 (b0 ∷ b1 ∷ b2 ∷ b3 ∷ b4 ∷ 3 ∷ rest) room
+
+abbrev pub Short-written-like-sealed : Type 0
+Short-written-like-sealed =
+    (p : ParameterSet) (numbers : List ℤ) (room : ℕ)
+    → (number (writing 5 p numbers room) ≡ number (writing 3 p numbers room)) × (fileOf 5 p numbers ≡ take 5 (fileOf 3 p numbers) ++ 5 ∷ drop 6 (fileOf 3 p numbers))

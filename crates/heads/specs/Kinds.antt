@@ -8,11 +8,13 @@ use Rattle.array_sets.specs.declared.ArraySet.{ArraySet}
 use Rattle.array_sets.specs.declared.ArraySet.the-variants.{F, G, ReducedModulo2, ReducedModuloQ}
 
 -- "Kind 1, public: h. Kind 2, private: f, F2, Fq, g. Kind 3, sealed: e." The set of each array, in stored order.
+-- Document 02, wish 4: "kind 5, laid out like kind 3".
 unfoldable pub arraysOf : ℕ → List ArraySet
 arraysOf kind =
     cond (eqb kind 1) (ReducedModuloQ ∷ [])
     (cond (eqb kind 2) (F ∷ ReducedModulo2 ∷ ReducedModuloQ ∷ G ∷ [])
-    (cond (eqb kind 3) (ReducedModuloQ ∷ []) []))
+    (cond (eqb kind 3) (ReducedModuloQ ∷ [])
+    (cond (eqb kind 5) (ReducedModuloQ ∷ []) [])))
 
 -- The kinds that are made of arrays alone are the numbers that have arrays.
 abbrev pub madeOfArrays : ℕ → Bool

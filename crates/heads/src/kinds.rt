@@ -15,6 +15,9 @@ pub const SEALED: u32 = 3;
 // Document 02, wish 2: a bundle, which is not made of arrays alone.
 pub const BUNDLE: u32 = 4;
 
+// Document 02, wish 4: a sealed short message, "laid out like kind 3".
+pub const SHORT: u32 = 5;
+
 pub fn array_count(kind: u32) -> usize
     ensures { λ r. ⌜ r ≡ length (arraysOf kind) ⌝ }
 {
@@ -25,6 +28,9 @@ pub fn array_count(kind: u32) -> usize
         return 4;
     }
     if kind == SEALED {
+        return 1;
+    }
+    if kind == SHORT {
         return 1;
     }
     0

@@ -18,7 +18,7 @@ use Rattle.eisenstein.specs.Reduction.{bit, mod2}
 use Rattle.polynomials.specs.Polynomials.{Polynomial, all}
 use Rattle.polynomials.proofs.Members.{all-at, at-all, reduced2-at, at-reduced2}
 use Rattle.packing.specs.Messages.{messageBytes, bitOf, pair, packed, spareBitSet, messageBit, byte, listed, unpacked}
-use Rattle.packing.specs.Promises.{Packed-unpacks, Packed-reduced, Unpacked-packs, Unpacked-bytes, Unpacked-spare}
+use Rattle.packing.specs.Promises.{Bytes, Packed-unpacks, Packed-reduced, Unpacked-packs, Unpacked-bytes, Unpacked-spare}
 
 -- ---- lists: their length, and what stands at each place
 
@@ -112,7 +112,7 @@ bit-at message j r k l e =
     let q : k % 8 ≡ r = omega arith in
     ap₂ (λ (u v : ℕ). getD message u 0 / 2 ^ (7 - v) % 2) p q
 
-byte-of-bits : (message : List ℕ) (j : ℕ) → getD message j 0 < 256 → byte (bitOf message) j ≡ getD message j 0
+pub byte-of-bits : (message : List ℕ) (j : ℕ) → getD message j 0 < 256 → byte (bitOf message) j ≡ getD message j 0
 unfolding byte bits-of
 byte-of-bits message j h =
     omega (arith, bits-make (getD message j 0) h, bit-at message j 0 (8 * j) (omega arith) (omega arith), bit-at message j 1 (8 * j + 1) (omega arith) refl, bit-at message j 2 (8 * j + 2) (omega arith) refl, bit-at message j 3 (8 * j + 3) (omega arith) refl, bit-at message j 4 (8 * j + 4) (omega arith) refl, bit-at message j 5 (8 * j + 5) (omega arith) refl, bit-at message j 6 (8 * j + 6) (omega arith) refl, bit-at message j 7 (8 * j + 7) (omega arith) refl)
@@ -121,6 +121,31 @@ pub byte-same : (b c : ℕ → ℕ) (j n : ℕ) → j < n → ((k : ℕ) → k <
 unfolding byte
 byte-same b c j n l h =
     omega (arith, h (8 * j) (omega arith), h (8 * j + 1) (omega arith), h (8 * j + 2) (omega arith), h (8 * j + 3) (omega arith), h (8 * j + 4) (omega arith), h (8 * j + 5) (omega arith), h (8 * j + 6) (omega arith), h (8 * j + 7) (omega arith))
+
+-- ---- bytes that are listed by their bits
+
+pub listed-bit : (n : ℕ) (b : ℕ → ℕ) → ((k : ℕ) → b k < 2) → (k : ℕ) → k < 8 * n → bitOf (listed n (byte b)) k ≡ b k
+listed-bit n b h k l =
+    bit-at (listed n (byte b)) (k / 8) (k % 8) k (omega arith) (omega arith)
+    ∙ ap (λ (v : ℕ). v / 2 ^ (7 - k % 8) % 2) (listed-at n (byte b) (k / 8) (omega arith))
+    ∙ bit-in b (k / 8) (k % 8) h (omega arith)
+    ∙ ap b {x = 8 * (k / 8) + k % 8} {y = k} (omega arith)
+
+pub listed-bytes : (n : ℕ) (b : ℕ → ℕ) → ((k : ℕ) → b k < 2) → Bytes (listed n (byte b))
+listed-bytes n b h i = go (decLt i n)
+  where
+    go : Dec (i < n) → getD (listed n (byte b)) i 0 < 256
+    go (yes l) = subst (λ (v : ℕ). v < 256) (sym (listed-at n (byte b) i l)) (byte-lt b i h)
+    go (no l) = subst (λ (v : ℕ). v < 256) (sym (listed-past n (byte b) i (omega arith))) (omega arith)
+
+-- bytes are those of their bits
+pub listed-is : (n : ℕ) (b : ℕ → ℕ) (message : List ℕ) → Bytes message → length message ≡ n → ((k : ℕ) → k < 8 * n → b k ≡ bitOf message k) → listed n (byte b) ≡ message
+listed-is n b message bytes len bits = ext-getD 0 (listed n (byte b)) message (listed-length n (byte b) ∙ sym len) at
+  where
+    at : (i : ℕ) → i < length (listed n (byte b)) → getD (listed n (byte b)) i 0 ≡ getD message i 0
+    at i l =
+        let m : i < n = omega (arith, listed-length n (byte b)) in
+        listed-at n (byte b) i m ∙ byte-same b (bitOf message) i n m bits ∙ byte-of-bits message i (bytes i)
 
 -- ---- pairs
 
@@ -182,8 +207,7 @@ spare-zero N message t k l p =
 
 pub packed-unpacks : Packed-unpacks
 unfolding unpacked
-packed-unpacks N message bytes len spare =
-    ext-getD 0 (listed (messageBytes N) (byte (messageBit N (packed message)))) message (listed-length (messageBytes N) _ ∙ sym len) at
+packed-unpacks N message bytes len spare = listed-is (messageBytes N) (messageBit N (packed message)) message bytes len bits
   where
     bits : (k : ℕ) → k < 8 * messageBytes N → messageBit N (packed message) k ≡ bitOf message k
     bits k l = go (decLt k (2 * N))
@@ -192,22 +216,11 @@ packed-unpacks N message bytes len spare =
         go (yes p) = packed-bit N message k p
         go (no p) = past-bit N (packed message) k (omega arith) ∙ sym (spare-zero N message spare k l (omega arith))
 
-    at : (i : ℕ) → i < length (listed (messageBytes N) (byte (messageBit N (packed message)))) → getD (listed (messageBytes N) (byte (messageBit N (packed message)))) i 0 ≡ getD message i 0
-    at i l =
-        let m : i < messageBytes N = omega (arith, listed-length (messageBytes N) (byte (messageBit N (packed message)))) in
-        listed-at (messageBytes N) (byte (messageBit N (packed message))) i m
-        ∙ byte-same (messageBit N (packed message)) (bitOf message) i (messageBytes N) m bits
-        ∙ byte-of-bits message i (bytes i)
-
 -- ---- the other way
 
 unpacked-bit : (N : ℕ) (m : Polynomial) (k : ℕ) → k < 8 * messageBytes N → bitOf (unpacked N m) k ≡ messageBit N m k
 unfolding unpacked
-unpacked-bit N m k l =
-    bit-at (unpacked N m) (k / 8) (k % 8) k (omega arith) (omega arith)
-    ∙ ap (λ (v : ℕ). v / 2 ^ (7 - k % 8) % 2) (listed-at (messageBytes N) (byte (messageBit N m)) (k / 8) (omega arith))
-    ∙ bit-in (messageBit N m) (k / 8) (k % 8) (messageBit-lt N m) (omega arith)
-    ∙ ap (messageBit N m) {x = 8 * (k / 8) + k % 8} {y = k} (omega arith)
+unpacked-bit N m k l = listed-bit (messageBytes N) (messageBit N m) (messageBit-lt N m) k l
 
 first-bit : (N : ℕ) (m : Polynomial) (i : ℕ) → i < N → messageBit N m (2 * i) ≡ bit (m i .a)
 unfolding messageBit
@@ -233,32 +246,32 @@ unpacked-packs N m red i l =
 
 pub unpacked-bytes : Unpacked-bytes
 unfolding unpacked
-unpacked-bytes N m i = go (decLt i (messageBytes N))
-  where
-    go : Dec (i < messageBytes N) → getD (listed (messageBytes N) (byte (messageBit N m))) i 0 < 256
-    go (yes l) = subst (λ (v : ℕ). v < 256) (sym (listed-at (messageBytes N) (byte (messageBit N m)) i l)) (byte-lt (messageBit N m) i (messageBit-lt N m))
-    go (no l) = subst (λ (v : ℕ). v < 256) (sym (listed-past (messageBytes N) (byte (messageBit N m)) i (omega arith))) (omega arith)
+unpacked-bytes N m = listed-bytes (messageBytes N) (messageBit N m) (messageBit-lt N m)
 
 pub unpacked-length : (N : ℕ) (m : Polynomial) → length (unpacked N m) ≡ messageBytes N
 unfolding unpacked
 unpacked-length N m = listed-length (messageBytes N) (byte (messageBit N m))
 
-pub unpacked-spare : Unpacked-spare
+-- no spare bit is set where all of them are 0
+pub zero-spare : (N : ℕ) (message : List ℕ) → ((k : ℕ) → k < 8 * messageBytes N → 2 * N ≤ k → bitOf message k ≡ 0) → T (not (spareBitSet N message))
 unfolding spareBitSet
-unpacked-spare N m = double-not (all (8 * messageBytes N) (λ k. ltb k (2 * N) || eqb (bitOf (unpacked N m) k) 0)) (at-all (8 * messageBytes N) (λ k. ltb k (2 * N) || eqb (bitOf (unpacked N m) k) 0) at)
+zero-spare N message h = double-not (all (8 * messageBytes N) (λ k. ltb k (2 * N) || eqb (bitOf message k) 0)) (at-all (8 * messageBytes N) (λ k. ltb k (2 * N) || eqb (bitOf message k) 0) at)
   where
     double-not : (t : Bool) → T t → T (not (not t))
     double-not true h = h
     double-not false h = h
 
-    at : (k : ℕ) → k < 8 * messageBytes N → T (ltb k (2 * N) || eqb (bitOf (unpacked N m) k) 0)
+    at : (k : ℕ) → k < 8 * messageBytes N → T (ltb k (2 * N) || eqb (bitOf message k) 0)
     at k l = go (decLt k (2 * N))
       where
-        go : Dec (k < 2 * N) → T (ltb k (2 * N) || eqb (bitOf (unpacked N m) k) 0)
-        go (yes p) = subst (λ (t : Bool). T (t || eqb (bitOf (unpacked N m) k) 0)) (sym (lt-ltb k (2 * N) p)) tt
+        go : Dec (k < 2 * N) → T (ltb k (2 * N) || eqb (bitOf message k) 0)
+        go (yes p) = subst (λ (t : Bool). T (t || eqb (bitOf message k) 0)) (sym (lt-ltb k (2 * N) p)) tt
         go (no p) =
-            subst (λ (t : Bool). T (t || eqb (bitOf (unpacked N m) k) 0)) (sym (le-ltb k (2 * N) (omega arith)))
-            (subst T (sym (eq-eqb (bitOf (unpacked N m) k) 0 (unpacked-bit N m k l ∙ past-bit N m k (omega arith)))) tt)
+            subst (λ (t : Bool). T (t || eqb (bitOf message k) 0)) (sym (le-ltb k (2 * N) (omega arith)))
+            (subst T (sym (eq-eqb (bitOf message k) 0 (h k l (omega arith)))) tt)
+
+pub unpacked-spare : Unpacked-spare
+unpacked-spare N m = zero-spare N (unpacked N m) (λ k l p. unpacked-bit N m k l ∙ past-bit N m k p)
 
 -- what is unpacked depends on the first N coefficients alone
 messageBit-same : (N : ℕ) {m m′ : Polynomial} → ((i : ℕ) → i < N → m i ≡ m′ i) → (k : ℕ) → messageBit N m k ≡ messageBit N m′ k

@@ -29,7 +29,7 @@ pub fn full_with_message(n: u32, message: usize, x: usize, y: usize, z: usize) -
 }
 
 // Bit k of the message, highest bit of a byte first; 0 past its end.
-fn bit_of(message: &[u8], k: usize) -> u8
+pub fn bit_of(message: &[u8], k: usize) -> u8
     ensures { λ r. ⌜ r ≡ bitOf (now (message .entry)) k ⌝ }
 {
     if k / 8 < message.len() {

@@ -31,6 +31,8 @@ numberOf Refusal.ValueOutOfRange = 22
 numberOf Refusal.PlaceOrUnitOutOfRange = 23
 numberOf Refusal.PlaceOccursTwice = 24
 numberOf Refusal.StopOccursTwice = 25
+numberOf Refusal.ShortMessageTooLong = 26
+numberOf Refusal.NotAShortMessage = 27
 
 -- An answer that carries no value, as an outcome.
 abbrev pub answered : Answer → Outcome (Unit {0})

@@ -30,6 +30,8 @@ pub enum Refusal {
     PlaceOrUnitOutOfRange,
     PlaceOccursTwice,
     StopOccursTwice,
+    ShortMessageTooLong,
+    NotAShortMessage,
 }
 
 impl Refusal {
@@ -63,6 +65,8 @@ impl Refusal {
             Refusal::PlaceOrUnitOutOfRange => 23,
             Refusal::PlaceOccursTwice => 24,
             Refusal::StopOccursTwice => 25,
+            Refusal::ShortMessageTooLong => 26,
+            Refusal::NotAShortMessage => 27,
         }
     }
 

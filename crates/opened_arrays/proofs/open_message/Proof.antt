@@ -10,13 +10,13 @@ use lib.Seq.{length-take-le}
 use Rattle.refusals.specs.Outcomes.{Outcome, done, number, written}
 use Rattle.refusals.specs.Numbers.{answered}
 use Rattle.refusals.specs.declared.Answer.{Answer}
-use Rattle.refusals.proofs.Checks.{done-as-written, same-first}
+use Rattle.refusals.proofs.Checks.{same-first}
 use Rattle.refusals.proofs.Numbers.{answer-refused}
 use Rattle.parameters.specs.Sets.{ParameterSet, setOf, parameterChecks}
 use Rattle.parameters.proofs.AcceptedParameters.{accepted-parameters}
 use Rattle.packing.specs.Messages.{messageBytes}
-use Rattle.etru.specs.Calls.{openingChecks, opening}
-use Rattle.opened_arrays.proofs.Answers.{gives-as}
+use Rattle.etru.specs.Calls.{opening}
+use Rattle.opened_arrays.proofs.Answers.{gives-as, opening-done}
 use Rattle.opened_arrays.proofs.open_message.Statement.{statement}
 use Rattle.opened_arrays.proofs.open_message.Tie as tie
 
@@ -28,11 +28,6 @@ module _ (p : ParameterSet) (f F2 e : List ℤ) where
       same-first (parameterChecks p) _ _ _ _ λ a.
       let enough : min (messageBytes (p .N)) 256 ≡ messageBytes (p .N) = omega (arith, accepted-parameters p a .N-small) in
       rw enough
-
-  -- what the call wrote, where its number is 0
-  opening-done : (room : ℕ) (old new : List ℕ) → number (opening p f F2 e room) ≡ 0 → new ≡ written (opening p f F2 e room) old → opening p f F2 e room ≡ done new
-  unfolding opening openingChecks parameterChecks
-  opening-done room old new z w = done-as-written (parameterChecks p ++ openingChecks p f F2 e room) _ old new tt z w
 
 -- the room that is lent
 lent : (c : tie.After-least) → c .least .result ≡ min (messageBytes (c .before .before .before .args .p .n)) 256

@@ -4,7 +4,7 @@ use mathlib.Core.List.{List}
 use Prim.Native.Nat.{ℕ}
 use lib.ListN.{length}
 use Rattle.array_sets.specs.declared.ArraySet.{ArraySet}
-use Rattle.heads.proofs.ArraysOfKinds.{public-arrays, private-arrays, sealed-arrays, no-arrays}
+use Rattle.heads.proofs.ArraysOfKinds.{public-arrays, private-arrays, sealed-arrays, short-arrays, no-arrays}
 use Rattle.heads.proofs.kinds.array_count.Statement.{statement}
 use Rattle.heads.proofs.kinds.array_count.Tie as tie
 
@@ -18,4 +18,5 @@ array-count-spec =
     (λ c. sym (ap count (public-arrays _ (c .if1 .taken))))
     (λ c. sym (ap count (private-arrays _ (c .if2 .taken))))
     (λ c. sym (ap count (sealed-arrays _ (c .if3 .taken))))
-    (λ c. sym (ap count (no-arrays _ (c .before .before .if1 .left) (c .before .if2 .left) (c .if3 .left)))))
+    (λ c. sym (ap count (short-arrays _ (c .if4 .taken))))
+    (λ c. sym (ap count (no-arrays _ (c .before .before .before .if1 .left) (c .before .before .if2 .left) (c .before .if3 .left) (c .if4 .left)))))

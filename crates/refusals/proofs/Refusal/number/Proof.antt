@@ -40,4 +40,6 @@ number-spec =
     (omega (arith, number-known)) (omega (arith, number-known))
     (omega (arith, number-known)) (omega (arith, number-known))
     (omega (arith, number-known)) (omega (arith, number-known))
+    (omega (arith, number-known)) (omega (arith, number-known))
+    (omega (arith, number-known)) (omega (arith, number-known))
     )

@@ -1,0 +1,4 @@
+pub mod LastOnes
+pub mod PaddedBits
+pub mod ReadingBack
+pub mod Rooms

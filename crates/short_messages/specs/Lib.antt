@@ -1,0 +1,2 @@
+pub mod ShortMessages
+pub mod Promises
