@@ -48,6 +48,11 @@ def main():
     spread = accepted(reference.call_spread_places(p, places, array))
     opened = accepted(reference.call_open(p, f, f2, e, len(message)))
     sealed = accepted(reference.call_write(reference.SEALED_FILE, p, e, sealed_length))
+    longest = message[: reference.short_message_bytes(p.n)]
+    e_longest = accepted(reference.call_seal_short(p, h, spread, longest, array))
+    e_none = accepted(reference.call_seal_short(p, h, spread, b"", array))
+    short_length = reference.file_bytes(reference.SHORT_FILE, p.n)
+    short_file = accepted(reference.call_write(reference.SHORT_FILE, p, e_none, short_length))
     refusal, _ = reference.call_seal(p, h, [0, 0] + phi[2:], message, array)
     print(
         f"""etru_read_head: 0, nothing is refused
@@ -68,6 +73,16 @@ etru_write: 0, nothing is refused
   sealed file = {digits(sealed)}
 etru_open_files: 0, nothing is refused
   line = {reference.open_files(private + bytes(sealed)).decode().strip()}
+etru_seal_short: 0, nothing is refused
+  e = {first_three(e_longest)}
+etru_open_short: 0, nothing is refused
+  opened = {digits(longest)}
+etru_seal_short: 0, nothing is refused
+  e = {first_three(e_none)}
+etru_open_short: 0, nothing is refused
+  opened = {digits(b"")}
+etru_write: 0, nothing is refused
+  short file = {digits(short_file)}
 etru_seal with a unit of phi gone: {refusal}, phi not in its set
   e is as it came"""
     )

@@ -35,6 +35,7 @@ static uint8_t message[MESSAGE], opened[MESSAGE], line[ETRU_LINE_BYTES + 1];
 static uint8_t public_file[ETRU_PUBLIC_FILE_BYTES(ETRU_MAX_N) + 1];
 static uint8_t private_file[ETRU_PRIVATE_FILE_BYTES(ETRU_MAX_N) + 1];
 static uint8_t sealed_file[ETRU_SEALED_FILE_BYTES(ETRU_MAX_N) + 1];
+static uint8_t short_file[ETRU_SHORT_FILE_BYTES(ETRU_MAX_N) + 1];
 static uint16_t stops[STOPS];
 static uint32_t read_stops[STOPS];
 static int32_t bundle_numbers[BUNDLE / 2], read_numbers[BUNDLE / 2];
@@ -56,6 +57,9 @@ static uint32_t seal_places(const size_t *k) {
 static uint32_t spread_places(const size_t *k) {
     return etru_spread_places(n, 15, 0, 3, 1, places, k[0], out, k[1]);
 }
+static uint32_t seal_short(const size_t *k) {
+    return etru_seal_short(n, 15, 0, 3, 1, h, k[0], triple, k[1], message, ETRU_SHORT_MESSAGE_BYTES(n), out, k[2]);
+}
 static uint32_t open_sealed(const size_t *k) {
     return etru_open(n, 15, 0, 3, 1, one, k[0], one, k[1], e, k[2], opened, k[3]);
 }
@@ -74,6 +78,9 @@ static uint32_t write_private(const size_t *k) {
 static uint32_t write_sealed(const size_t *k) {
     return etru_write(ETRU_SEALED_FILE, n, 15, 0, 3, 1, e, k[0], sealed_file, k[1]);
 }
+static uint32_t write_short(const size_t *k) {
+    return etru_write(ETRU_SHORT_FILE, n, 15, 0, 3, 1, e, k[0], short_file, k[1]);
+}
 static uint32_t read_public(const size_t *k) {
     return etru_read(ETRU_PUBLIC_FILE, public_file, k[0], numbers, k[1]);
 }
@@ -82,6 +89,9 @@ static uint32_t read_private(const size_t *k) {
 }
 static uint32_t read_sealed(const size_t *k) {
     return etru_read(ETRU_SEALED_FILE, sealed_file, k[0], numbers, k[1]);
+}
+static uint32_t read_short(const size_t *k) {
+    return etru_read(ETRU_SHORT_FILE, short_file, k[0], numbers, k[1]);
 }
 static uint32_t write_bundle(const size_t *k) {
     return etru_write_bundle(n, 15, 0, 3, 1, stops, k[0], bundle_numbers, k[1], bundle, k[2]);
@@ -158,14 +168,17 @@ static void try_lengths(void) {
         {"etru_seal_places", seal_places, {array, 3, bytes, array}},
         {"etru_spread_places", spread_places, {3, array}},
         {"etru_open", open_sealed, {array, array, array, bytes}},
+        {"etru_seal_short", seal_short, {array, array, array}},
         {"etru_pack", pack, {bytes, array}},
         {"etru_unpack", unpack, {array, bytes}},
         {"etru_write, public", write_public, {ETRU_PUBLIC_FILE_NUMBERS(n), ETRU_PUBLIC_FILE_BYTES(n)}},
         {"etru_write, private", write_private, {ETRU_PRIVATE_FILE_NUMBERS(n), ETRU_PRIVATE_FILE_BYTES(n)}},
         {"etru_write, sealed", write_sealed, {ETRU_SEALED_FILE_NUMBERS(n), ETRU_SEALED_FILE_BYTES(n)}},
+        {"etru_write, short", write_short, {ETRU_SHORT_FILE_NUMBERS(n), ETRU_SHORT_FILE_BYTES(n)}},
         {"etru_read, public", read_public, {ETRU_PUBLIC_FILE_BYTES(n), ETRU_PUBLIC_FILE_NUMBERS(n)}},
         {"etru_read, private", read_private, {ETRU_PRIVATE_FILE_BYTES(n), ETRU_PRIVATE_FILE_NUMBERS(n)}},
         {"etru_read, sealed", read_sealed, {ETRU_SEALED_FILE_BYTES(n), ETRU_SEALED_FILE_NUMBERS(n)}},
+        {"etru_read, short", read_short, {ETRU_SHORT_FILE_BYTES(n), ETRU_SHORT_FILE_NUMBERS(n)}},
         {"etru_write_bundle", write_bundle, {most, bundled, bundle_bytes}},
         {"etru_read_bundle_head", read_bundle_head, {bundle_bytes}},
         {"etru_read_bundle", read_bundle, {bundle_bytes, most, bundled}},
@@ -194,16 +207,21 @@ static void try_lengths(void) {
 
 #define NUMBERS_OF_TWO_ENTRIES(n) ETRU_BUNDLE_FILE_NUMBERS(n, 1 ? 2 : 0)
 #define BYTES_OF_TWO_ENTRIES(n) ETRU_BUNDLE_FILE_BYTES(n, 1 ? 2 : 0)
+// at N = 3 there is no byte to divide by
+#define SHORT_MESSAGE_BYTES_OF_14_MORE(n) ETRU_SHORT_MESSAGE_BYTES(1 ? 14 + (n) : 0)
 
 static void try_macros(void) {
     EXPECT_OPERAND(ETRU_ARRAY_NUMBERS);
     EXPECT_OPERAND(ETRU_MESSAGE_BYTES);
+    EXPECT_OPERAND(SHORT_MESSAGE_BYTES_OF_14_MORE);
     EXPECT_OPERAND(ETRU_PUBLIC_FILE_NUMBERS);
     EXPECT_OPERAND(ETRU_PRIVATE_FILE_NUMBERS);
     EXPECT_OPERAND(ETRU_SEALED_FILE_NUMBERS);
+    EXPECT_OPERAND(ETRU_SHORT_FILE_NUMBERS);
     EXPECT_OPERAND(ETRU_PUBLIC_FILE_BYTES);
     EXPECT_OPERAND(ETRU_PRIVATE_FILE_BYTES);
     EXPECT_OPERAND(ETRU_SEALED_FILE_BYTES);
+    EXPECT_OPERAND(ETRU_SHORT_FILE_BYTES);
     EXPECT_OPERAND(ETRU_PART_BYTES);
     EXPECT_OPERAND(ETRU_ENTRY_BYTES);
     EXPECT_OPERAND(NUMBERS_OF_TWO_ENTRIES);
@@ -288,6 +306,44 @@ static void try_triples(void) {
     expect("each unit once", etru_spread_places(6, 31, 0, 6, 1, list, 6, out, ETRU_ARRAY_NUMBERS(6)), ETRU_OK);
 }
 
+// ---- Short messages
+
+static uint32_t open_short(const int32_t *sealed, size_t room, size_t *used) {
+    const size_t array = ETRU_ARRAY_NUMBERS(n);
+    return etru_open_short(n, 15, 0, 3, 1, one, array, one, array, sealed, array, opened, room, used);
+}
+
+// A short message of so many bytes 80, of which each but for the last could be taken for the end.
+static void try_short_message(size_t count) {
+    const size_t array = ETRU_ARRAY_NUMBERS(n), longest = ETRU_SHORT_MESSAGE_BYTES(n);
+    uint8_t code[MESSAGE];
+    size_t used = 77;
+    uint32_t right = 1;
+    memset(code, 0x80, sizeof code);
+    memset(opened, 0x5A, sizeof opened);
+    expect("a short message sealed",
+           etru_seal_short(n, 15, 0, 3, 1, h, array, triple, array, code, count, out, array), ETRU_OK);
+    expect("a short message opened", open_short(out, longest, &used), ETRU_OK);
+    for (size_t i = 0; i < sizeof opened; i++) {
+        right = right && opened[i] == (i < count ? 0x80 : 0x5A);
+    }
+    expect("its bytes, and those behind it as they came", right && used == count, 1);
+}
+
+// What try_lengths sealed is all zeros, and so no short message.
+static void try_short(void) {
+    const size_t array = ETRU_ARRAY_NUMBERS(n), longest = ETRU_SHORT_MESSAGE_BYTES(n);
+    size_t used = 77;
+    try_short_message(0);
+    try_short_message(longest);
+    expect("ETRU_SHORT_MESSAGE_BYTES + 1",
+           etru_seal_short(n, 15, 0, 3, 1, h, array, triple, array, message, longest + 1, out, array),
+           ETRU_SHORT_MESSAGE_TOO_LONG);
+    expect("room for a byte more", open_short(out, longest + 1, &used), ETRU_WRONG_LENGTH);
+    expect("no 1 bit", open_short(e, longest, &used), ETRU_NOT_A_SHORT_MESSAGE);
+    expect("nothing is written", used == 77, 1);
+}
+
 // ---- Limits
 
 static void try_limits(void) {
@@ -323,10 +379,12 @@ int main(void) {
     try_lengths();
     try_places();
     try_bundles();
+    try_short();
     n = ETRU_MAX_N;
     try_lengths();
     try_places();
     try_bundles();
+    try_short();
     try_macros();
     try_triples();
     try_limits();

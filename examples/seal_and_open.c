@@ -1,5 +1,5 @@
 // Checks a key, seals a message with it, and opens it again: first as arrays, with the ephemeral as an array and as
-// places, then as files. Then one refusal.
+// places, then as files. Then short messages, sealed from places, and one refusal.
 //
 // Usage: seal_and_open [private-file]
 // Without a file the key is document 01's example. The status is 0 only if each step came out as expected.
@@ -37,13 +37,15 @@ static const char *const conditions[] = {
     [ETRU_HEAD_TOO_SHORT] = "fewer than 16 bytes",
     [ETRU_MARK_NOT_EIZ] = "mark is not EIZ",
     [ETRU_VERSION_NOT_ONE] = "version is not 1",
-    [ETRU_KIND_NOT_WANTED] = "kind is not the one wanted, or not 1 to 4",
+    [ETRU_KIND_NOT_WANTED] = "kind is not the one wanted, or not 1 to 5",
     [ETRU_PARAMETERS_DIFFER] = "the two files' parameters differ",
     [ETRU_MODULUS_ZERO] = "modulus zero",
     [ETRU_VALUE_OUT_OF_RANGE] = "a part of the value below -2^40 or above 2^40",
     [ETRU_PLACE_OR_UNIT_OUT_OF_RANGE] = "a place is N or more, or a unit number is above 5",
     [ETRU_PLACE_OCCURS_TWICE] = "a place occurs twice",
     [ETRU_STOP_OCCURS_TWICE] = "a stop number occurs twice",
+    [ETRU_SHORT_MESSAGE_TOO_LONG] = "a short message of n bytes, with 8n + 1 above 2N",
+    [ETRU_NOT_A_SHORT_MESSAGE] = "no 1 bit, or the last one at a position that is not a multiple of 8",
 };
 
 // All memory is the caller's. These have room for the largest N; a call is lent as much of each as its N asks for.
@@ -57,6 +59,7 @@ static uint8_t message[ETRU_MESSAGE_BYTES(ETRU_MAX_N)], opened[ETRU_MESSAGE_BYTE
 // The private file, and directly after it the sealed file.
 static uint8_t files[ETRU_PRIVATE_FILE_BYTES(ETRU_MAX_N) + ETRU_SEALED_FILE_BYTES(ETRU_MAX_N)];
 static uint8_t line[ETRU_LINE_BYTES];
+static uint8_t short_file[ETRU_SHORT_FILE_BYTES(ETRU_MAX_N)];
 
 // Prints what a call returned, and tells whether that is what was expected.
 static int came_out(const char *call, uint32_t number, uint32_t expected) {
@@ -65,7 +68,7 @@ static int came_out(const char *call, uint32_t number, uint32_t expected) {
 }
 
 static void print_bytes(const char *name, const uint8_t *bytes, size_t count) {
-    printf("  %s = ", name);
+    printf("  %s =%s", name, count > 0 ? " " : "");
     for (size_t i = 0; i < count; i++) {
         printf("%02X", (unsigned)bytes[i]);
     }
@@ -224,6 +227,30 @@ int main(int argc, char **argv) {
     if (!line_tells_message(used, message_bytes)) {
         return failed("the line does not tell the message");
     }
+
+    // Short messages, with the ephemeral that the places were spread to: the longest, which at N = 3 is empty, and none.
+    size_t longest = ETRU_SHORT_MESSAGE_BYTES(n), lengths[] = {longest, 0};
+    for (size_t i = 0; i < 2; i++) {
+        number = etru_seal_short(n, c, d, s, t, h, array, spread, array, message, lengths[i], e, array);
+        if (!came_out("etru_seal_short", number, ETRU_OK)) {
+            return failed("sealing a short message was refused");
+        }
+        print_coefficients("e", e, n);
+        number = etru_open_short(n, c, d, s, t, f, array, f2, array, e, array, opened, longest, &used);
+        if (!came_out("etru_open_short", number, ETRU_OK)) {
+            return failed("opening a short message was refused");
+        }
+        print_bytes("opened", opened, used);
+        if (used != lengths[i] || memcmp(opened, message, used) != 0) {
+            return failed("another short message was opened than was sealed");
+        }
+    }
+    size_t short_bytes = ETRU_SHORT_FILE_BYTES(n);
+    number = etru_write(ETRU_SHORT_FILE, n, c, d, s, t, e, ETRU_SHORT_FILE_NUMBERS(n), short_file, short_bytes);
+    if (!came_out("etru_write", number, ETRU_OK)) {
+        return failed("the file of a short message was refused");
+    }
+    print_bytes("short file", short_file, short_bytes);
 
     // A refusal: with one unit of the ephemeral gone, s - 1 are left. Nothing is written to e.
     phi[0] = 0;

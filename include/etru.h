@@ -19,9 +19,9 @@
 // What a call takes
 //   Nothing is allocated, and there is no global state: calls may run in several threads at once, as long as nobody
 //   changes what is lent to a call, or uses its outputs, before it returns. No call depends on an earlier one.
-//   Stack, at every N: etru_open_files at most 72 KiB, etru_seal_places 36 KiB, etru_open, etru_open_entry,
-//   etru_check_key and etru_spread_places 28 KiB, etru_seal, etru_read, etru_read_bundle, etru_begin_bundle and
-//   etru_write_bundle 12 KiB, each other function 1 KiB.
+//   Stack, at every N: etru_open_files at most 72 KiB, etru_seal_places 36 KiB, etru_open, etru_open_short,
+//   etru_open_entry, etru_check_key and etru_spread_places 28 KiB, etru_seal, etru_seal_short, etru_read,
+//   etru_read_bundle, etru_begin_bundle and etru_write_bundle 12 KiB, each other function 1 KiB.
 //   Of the C library at most memcmp, memcpy, memmove and memset are needed.
 //
 // What is not promised
@@ -39,7 +39,7 @@
 //   Reduced modulo 2: each coefficient is (0,0), (1,0), (0,1) or (−1,−1).
 //   Reduced modulo q: each coefficient is its own remainder, by the rule at etru_reduce_q.
 //   A message is 2N bits, highest bit of a byte first; bits 2i and 2i + 1 stand for coefficient i. The spare low bits
-//   of the last byte are zero.
+//   of the last byte are zero. A short message is fewer bytes, or none; see there.
 #ifndef ETRU_H
 #define ETRU_H
 
@@ -77,7 +77,7 @@ enum etru_refusal {
     ETRU_HEAD_TOO_SHORT = 16,                 // fewer than 16 bytes
     ETRU_MARK_NOT_EIZ = 17,                   // mark is not EIZ
     ETRU_VERSION_NOT_ONE = 18,                // version is not 1
-    ETRU_KIND_NOT_WANTED = 19,                // kind is not the one wanted, or not 1 to 4
+    ETRU_KIND_NOT_WANTED = 19,                // kind is not the one wanted, or not 1 to 5
     // Program
     ETRU_PARAMETERS_DIFFER = 20,              // the two files' parameters differ
     // One value
@@ -87,7 +87,10 @@ enum etru_refusal {
     ETRU_PLACE_OR_UNIT_OUT_OF_RANGE = 23,     // a place is N or more, or a unit number is above 5
     ETRU_PLACE_OCCURS_TWICE = 24,             // a place occurs twice
     // Bundle
-    ETRU_STOP_OCCURS_TWICE = 25               // a stop number occurs twice
+    ETRU_STOP_OCCURS_TWICE = 25,              // a stop number occurs twice
+    // Short message
+    ETRU_SHORT_MESSAGE_TOO_LONG = 26,         // a short message of n bytes, with 8n + 1 above 2N
+    ETRU_NOT_A_SHORT_MESSAGE = 27             // no 1 bit, or the last one at a position that is not a multiple of 8
 };
 
 // The kinds of file, each with its arrays in stored order.
@@ -95,7 +98,8 @@ enum etru_file_kind {
     ETRU_PUBLIC_FILE = 1,   // h
     ETRU_PRIVATE_FILE = 2,  // f, F2, Fq, g
     ETRU_SEALED_FILE = 3,   // e
-    ETRU_BUNDLE_FILE = 4    // entries: each a stop number and an e
+    ETRU_BUNDLE_FILE = 4,   // entries: each a stop number and an e
+    ETRU_SHORT_FILE = 5     // e, of a short message
 };
 
 // Limits: N is from ETRU_MIN_N to ETRU_MAX_N, s from ETRU_MIN_S and t from ETRU_MIN_T to N, and no part of q or of a
@@ -111,16 +115,21 @@ enum etru_file_kind {
 #define ETRU_ARRAY_NUMBERS(n) ((size_t)2 * (size_t)(n))
 #define ETRU_MESSAGE_BYTES(n) (((size_t)(n) + 3) / 4)
 
+// The bytes of the longest short message, for n from 1 on: (2N - 1)/8, rounded down.
+#define ETRU_SHORT_MESSAGE_BYTES(n) ((ETRU_ARRAY_NUMBERS(n) - 1) / 8)
+
 // The numbers of a file's arrays, one array after another in stored order.
 #define ETRU_PUBLIC_FILE_NUMBERS(n) ETRU_ARRAY_NUMBERS(n)
 #define ETRU_PRIVATE_FILE_NUMBERS(n) (4 * ETRU_ARRAY_NUMBERS(n))
 #define ETRU_SEALED_FILE_NUMBERS(n) ETRU_ARRAY_NUMBERS(n)
+#define ETRU_SHORT_FILE_NUMBERS(n) ETRU_ARRAY_NUMBERS(n)
 
 // The bytes of a file: its head, and two for each number.
 #define ETRU_HEAD_BYTES ((size_t)16)
 #define ETRU_PUBLIC_FILE_BYTES(n) (ETRU_HEAD_BYTES + 2 * ETRU_PUBLIC_FILE_NUMBERS(n))
 #define ETRU_PRIVATE_FILE_BYTES(n) (ETRU_HEAD_BYTES + 2 * ETRU_PRIVATE_FILE_NUMBERS(n))
 #define ETRU_SEALED_FILE_BYTES(n) (ETRU_HEAD_BYTES + 2 * ETRU_SEALED_FILE_NUMBERS(n))
+#define ETRU_SHORT_FILE_BYTES(n) (ETRU_HEAD_BYTES + 2 * ETRU_SHORT_FILE_NUMBERS(n))
 
 // The bytes of an entry's sealed array, which is the part of a bundle that etru_open_entry takes, and of an entry.
 #define ETRU_PART_BYTES(n) (2 * ETRU_ARRAY_NUMBERS(n))
@@ -243,6 +252,46 @@ uint32_t etru_spread_places(uint32_t n, int32_t c, int32_t d, uint32_t s, uint32
                             const struct etru_placed_unit *places, size_t places_count,
                             int32_t *phi, size_t phi_count);
 
+// ---- Short messages
+//
+// A short message is from 0 to ETRU_SHORT_MESSAGE_BYTES(n) whole bytes. It is sealed as the message of 2N bits that are
+// its own bits, one 1 bit, and zeros, and it opens to exactly its own bytes and length. Two different short messages,
+// the empty one among them, never seal alike under one key. etru_open opens it too, to those 2N bits; and what etru_seal
+// sealed opens as a short message where its bits are one, and is refused by 27 otherwise.
+// Its file is of kind ETRU_SHORT_FILE, read and written as a sealed file is. The opening program does not take it.
+//
+// Whoever has the ephemeral as places spreads it first:
+//
+//     if (etru_spread_places(n, c, d, s, t, places, s, phi, array) == ETRU_OK) {
+//         number = etru_seal_short(n, c, d, s, t, h, array, phi, array, code, code_bytes, e, array);
+//     }
+//
+// With N = 3, q = 15, s = 3, t = 1 and h = φ = (1,0), (0,1), (−1,−1) the empty message, which is lent with a count of 0,
+// is the bits 100000 and seals to (7,0), (0,6), (−6,−6); with f = F2 = 1 that opens to 0 bytes.
+
+// Seals a short message: e is what etru_seal gives with its 2N bits.
+//   h        ETRU_ARRAY_NUMBERS(n) numbers: the public key, reduced modulo q
+//   phi      ETRU_ARRAY_NUMBERS(n) numbers: the ephemeral φ, exactly s nonzero coefficients, each a unit, in whole
+//            triples; the caller draws it for each message
+//   message  from 0 to ETRU_SHORT_MESSAGE_BYTES(n) bytes
+//   e        output, ETRU_ARRAY_NUMBERS(n) numbers
+// Refusals in order: 1 to 6; 7 for h, phi or e; 12 for h; 10 for phi; 26 if message is too long.
+uint32_t etru_seal_short(uint32_t n, int32_t c, int32_t d, uint32_t s, uint32_t t,
+                         const int32_t *h, size_t h_count, const int32_t *phi, size_t phi_count,
+                         const uint8_t *message, size_t message_count, int32_t *e, size_t e_count);
+
+// Opens a sealed array as a short message. As for etru_open, check the key once by etru_check_key.
+//   f        ETRU_ARRAY_NUMBERS(n) numbers: exactly t nonzero coefficients, each a unit
+//   f2       ETRU_ARRAY_NUMBERS(n) numbers: F2, reduced modulo 2
+//   e        ETRU_ARRAY_NUMBERS(n) numbers: the sealed array, reduced modulo q
+//   message  output, ETRU_SHORT_MESSAGE_BYTES(n) bytes: the short message at its front, and the rest is left as it came
+//   used     output: the length of the short message, which may be 0
+// Refusals in order: 1 to 6; 7 for f, f2, e or message; 8 for f; 11 for F2; 12 for e; 27 if what is opened is not a
+//   short message.
+uint32_t etru_open_short(uint32_t n, int32_t c, int32_t d, uint32_t s, uint32_t t,
+                         const int32_t *f, size_t f_count, const int32_t *f2, size_t f2_count,
+                         const int32_t *e, size_t e_count, uint8_t *message, size_t message_count, size_t *used);
+
 // ---- Message bits
 
 // The polynomial that a message stands for: bits a then b are coefficient (a, b), but 11 is (−1,−1).
@@ -266,29 +315,32 @@ uint32_t etru_unpack(uint32_t n, const int32_t *m, size_t m_count, uint8_t *mess
 
 // The parameters of a file, from its head alone; they tell how long the file is, and how many numbers etru_read gives.
 // Of a bundle they do not: etru_read_bundle_head gives its count too.
-//   kind           the kind wanted, from 1 to 4
+//   kind           the kind wanted, from 1 to 5
 //   file           the file, or its first 16 bytes or more: only those are looked at
 //   n, c, d, s, t  outputs: an accepted parameter set
-// Refusals in order: 16, 17, 18; 19 if the kind wanted is not 1 to 4, or the file's is another; 1 to 6.
+// Refusals in order: 16, 17, 18; 19 if the kind wanted is not 1 to 5, or the file's is another; 1 to 6.
 uint32_t etru_read_head(uint32_t kind, const uint8_t *file, size_t file_count,
                         uint32_t *n, int32_t *c, int32_t *d, uint32_t *s, uint32_t *t);
 
 // The numbers of a file. Each array is checked by its own set; whether F2 and Fq are inverses of f is left to
 // etru_check_key. With n from the file's own head:
-//   kind     the kind wanted: ETRU_PUBLIC_FILE, ETRU_PRIVATE_FILE or ETRU_SEALED_FILE
-//   file     the whole file and no more: ETRU_PUBLIC_FILE_BYTES(n), ETRU_PRIVATE_FILE_BYTES(n) or
-//            ETRU_SEALED_FILE_BYTES(n) bytes
-//   numbers  output: ETRU_PUBLIC_FILE_NUMBERS(n), ETRU_PRIVATE_FILE_NUMBERS(n) or ETRU_SEALED_FILE_NUMBERS(n) numbers
+//   kind     the kind wanted: ETRU_PUBLIC_FILE, ETRU_PRIVATE_FILE, ETRU_SEALED_FILE or ETRU_SHORT_FILE
+//   file     the whole file and no more: ETRU_PUBLIC_FILE_BYTES(n), ETRU_PRIVATE_FILE_BYTES(n),
+//            ETRU_SEALED_FILE_BYTES(n) or ETRU_SHORT_FILE_BYTES(n) bytes
+//   numbers  output: ETRU_PUBLIC_FILE_NUMBERS(n), ETRU_PRIVATE_FILE_NUMBERS(n), ETRU_SEALED_FILE_NUMBERS(n) or
+//            ETRU_SHORT_FILE_NUMBERS(n) numbers
 // Refusals in order: 16, 17, 18; 19 as for etru_read_head; 1 to 6; 7 for file or numbers, and always where a bundle is
 //   wanted; then of a public file 12 for h; of a private file 8 for f, 11 for F2, 12 for Fq, 9 for g; of a sealed file
-//   12 for e.
+//   or that of a short message 12 for e.
 uint32_t etru_read(uint32_t kind, const uint8_t *file, size_t file_count, int32_t *numbers, size_t numbers_count);
 
 // A file of these parameters and numbers, which etru_read reads back to the same.
-//   kind     ETRU_PUBLIC_FILE, ETRU_PRIVATE_FILE or ETRU_SEALED_FILE
-//   numbers  ETRU_PUBLIC_FILE_NUMBERS(n), ETRU_PRIVATE_FILE_NUMBERS(n) or ETRU_SEALED_FILE_NUMBERS(n) numbers
-//   file     output: ETRU_PUBLIC_FILE_BYTES(n), ETRU_PRIVATE_FILE_BYTES(n) or ETRU_SEALED_FILE_BYTES(n) bytes
-// Refusals in order: 19 if kind is not 1 to 4; 1 to 6; 7 for numbers or file, and always for a bundle; then as for
+//   kind     ETRU_PUBLIC_FILE, ETRU_PRIVATE_FILE, ETRU_SEALED_FILE or ETRU_SHORT_FILE
+//   numbers  ETRU_PUBLIC_FILE_NUMBERS(n), ETRU_PRIVATE_FILE_NUMBERS(n), ETRU_SEALED_FILE_NUMBERS(n) or
+//            ETRU_SHORT_FILE_NUMBERS(n) numbers
+//   file     output: ETRU_PUBLIC_FILE_BYTES(n), ETRU_PRIVATE_FILE_BYTES(n), ETRU_SEALED_FILE_BYTES(n) or
+//            ETRU_SHORT_FILE_BYTES(n) bytes
+// Refusals in order: 19 if kind is not 1 to 5; 1 to 6; 7 for numbers or file, and always for a bundle; then as for
 //   etru_read, array by array.
 uint32_t etru_write(uint32_t kind, uint32_t n, int32_t c, int32_t d, uint32_t s, uint32_t t,
                     const int32_t *numbers, size_t numbers_count, uint8_t *file, size_t file_count);
