@@ -22,6 +22,12 @@ static int32_t key[8 * N], numbers[8 * N];
 static uint8_t files[ETRU_PRIVATE_FILE_BYTES(N) + ETRU_SEALED_FILE_BYTES(N)], line[ETRU_LINE_BYTES];
 static size_t line_bytes;
 
+// The longest short message.
+#define SHORT ETRU_SHORT_MESSAGE_BYTES(N)
+static int32_t e_short[2 * N];
+static uint8_t opened_short[SHORT];
+static size_t short_bytes;
+
 // A full bundle: e for each stop.
 #define ENTRIES ETRU_MAX_BUNDLE_ENTRIES(N)
 #define BUNDLE ETRU_BUNDLE_FILE_BYTES(N, ENTRIES)
@@ -38,6 +44,8 @@ static uint32_t seal(void) { return etru_seal(N, 15, 0, 3, 1, h, 2 * N, g, 2 * N
 static uint32_t seal_places(void) { return etru_seal_places(N, 15, 0, 3, 1, h, 2 * N, places, 3, message, N / 4, e, 2 * N); }
 static uint32_t spread_places(void) { return etru_spread_places(N, 15, 0, 3, 1, places, 3, out, 2 * N); }
 static uint32_t open_sealed(void) { return etru_open(N, 15, 0, 3, 1, one, 2 * N, one, 2 * N, e, 2 * N, opened, N / 4); }
+static uint32_t seal_short(void) { return etru_seal_short(N, 15, 0, 3, 1, h, 2 * N, g, 2 * N, message, SHORT, e_short, 2 * N); }
+static uint32_t open_short(void) { return etru_open_short(N, 15, 0, 3, 1, one, 2 * N, one, 2 * N, e_short, 2 * N, opened_short, SHORT, &short_bytes); }
 static uint32_t pack(void) { return etru_pack(N, message, N / 4, out, 2 * N); }
 static uint32_t unpack(void) { return etru_unpack(N, out, 2 * N, opened, N / 4); }
 static uint32_t write_private(void) { return etru_write(2, N, 15, 0, 3, 1, key, 8 * N, files, ETRU_PRIVATE_FILE_BYTES(N)); }
@@ -121,6 +129,8 @@ int main(void) {
                  {"etru_seal_places", seal_places, 36},
                  {"etru_spread_places", spread_places, 28},
                  {"etru_open", open_sealed, 28},
+                 {"etru_seal_short", seal_short, 12},
+                 {"etru_open_short", open_short, 28},
                  {"etru_pack", pack, 1},
                  {"etru_unpack", unpack, 1},
                  {"etru_write, 2", write_private, 1},
@@ -158,5 +168,6 @@ int main(void) {
         status |= !within;
     }
     return status || memcmp(message, opened, sizeof message) != 0 || memcmp(key, numbers, sizeof key) != 0 ||
+           short_bytes != SHORT || memcmp(message, opened_short, SHORT) != 0 ||
            memcmp(bundled, read_numbers, sizeof bundled) != 0 || line_bytes != ETRU_LINE_BYTES;
 }

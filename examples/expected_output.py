@@ -48,7 +48,7 @@ def main():
     spread = accepted(reference.call_spread_places(p, places, array))
     opened = accepted(reference.call_open(p, f, f2, e, len(message)))
     sealed = accepted(reference.call_write(reference.SEALED_FILE, p, e, sealed_length))
-    longest = message[: reference.short_message_bytes(p.n)]
+    longest = message[: reference.largest_short_bytes(p.n)]
     e_longest = accepted(reference.call_seal_short(p, h, spread, longest, array))
     e_none = accepted(reference.call_seal_short(p, h, spread, b"", array))
     short_length = reference.file_bytes(reference.SHORT_FILE, p.n)
@@ -80,7 +80,7 @@ etru_open_short: 0, nothing is refused
 etru_seal_short: 0, nothing is refused
   e = {first_three(e_none)}
 etru_open_short: 0, nothing is refused
-  opened = {digits(b"")}
+  opened =
 etru_write: 0, nothing is refused
   short file = {digits(short_file)}
 etru_seal with a unit of phi gone: {refusal}, phi not in its set

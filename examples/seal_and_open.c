@@ -44,8 +44,8 @@ static const char *const conditions[] = {
     [ETRU_PLACE_OR_UNIT_OUT_OF_RANGE] = "a place is N or more, or a unit number is above 5",
     [ETRU_PLACE_OCCURS_TWICE] = "a place occurs twice",
     [ETRU_STOP_OCCURS_TWICE] = "a stop number occurs twice",
-    [ETRU_SHORT_MESSAGE_TOO_LONG] = "a short message of n bytes, with 8n + 1 above 2N",
-    [ETRU_NOT_A_SHORT_MESSAGE] = "no 1 bit, or the last one at a position that is not a multiple of 8",
+    [ETRU_SHORT_MESSAGE_TOO_LONG] = "8n + 1 exceeds 2N, for a short message of n bytes",
+    [ETRU_NOT_A_SHORT_MESSAGE] = "no 1 bit, or the last one at a position, counted from 0, that is not a multiple of 8",
 };
 
 // All memory is the caller's. These have room for the largest N; a call is lent as much of each as its N asks for.

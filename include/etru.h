@@ -89,8 +89,9 @@ enum etru_refusal {
     // Bundle
     ETRU_STOP_OCCURS_TWICE = 25,              // a stop number occurs twice
     // Short message
-    ETRU_SHORT_MESSAGE_TOO_LONG = 26,         // a short message of n bytes, with 8n + 1 above 2N
-    ETRU_NOT_A_SHORT_MESSAGE = 27             // no 1 bit, or the last one at a position that is not a multiple of 8
+    ETRU_SHORT_MESSAGE_TOO_LONG = 26,         // 8n + 1 exceeds 2N, for a short message of n bytes
+    ETRU_NOT_A_SHORT_MESSAGE = 27             // no 1 bit, or the last one at a position, counted from 0, that is not a
+                                              // multiple of 8
 };
 
 // The kinds of file, each with its arrays in stored order.

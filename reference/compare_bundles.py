@@ -13,10 +13,10 @@ import sys
 import etru_reference as reference
 from compare import Changeable, Results
 from compare import all_spoiled, array_changes, at, in_array, outputs_after, parameter_spoils
-from compare_files import BEFORE_THE_LENGTH, DOCUMENTED_SEALED, HIGH_U32, MEGABYTE, NO_KIND, Files
+from compare_files import ARRAY_KINDS, BEFORE_THE_LENGTH, DOCUMENTED_SEALED, HIGH_U32, MEGABYTE, NO_KIND, Files
 from compare_files import file_parameter_spoils, fits, fitting, head_spoils, large_keys, other_lengths
 from compare_files import parameters_before, random_numbers, setting, stored_array, stored_head, wrong_rooms
-from etru_reference import BUNDLE_FILE, PRIVATE_FILE, PUBLIC_FILE, SEALED_FILE
+from etru_reference import BUNDLE_FILE
 from keys import ONE, SEALED, SMALL, Key
 from keys import random_message, random_parameters, random_reduced, random_triples, varied_keys
 from library import Library
@@ -458,7 +458,7 @@ def kinds(results, library, rng, files):
     bundle = Bundle(files.p, [1, 2], [files.sealed.numbers()] * 2)
     data = bundle.bytes()
     before = (9, -9, 8, 7, 6)
-    for wanted in (0, PUBLIC_FILE, PRIVATE_FILE, SEALED_FILE, NO_KIND, 256 + BUNDLE_FILE, HIGH_U32):
+    for wanted in (0, *ARRAY_KINDS, NO_KIND, 256 + BUNDLE_FILE, HIGH_U32):
         results.expect(f"a bundle's head as kind {wanted}", library.read_head(wanted, data, before), (19, before))
         results.expect(f"a bundle as kind {wanted}", library.read(wanted, data, [5] * 12), (19, [5] * 12))
     for file in files.all():

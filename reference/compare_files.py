@@ -17,9 +17,10 @@ import time
 import etru_reference as reference
 from compare import HIGH32, LOW32, Changeable, Results
 from compare import array_changes, at, in_array, outputs_after, parameter_spoils, spoiled_in_order
-from etru_reference import PRIVATE_FILE, PUBLIC_FILE, SEALED_FILE
-from keys import KEY_MODULI, ONE, SEALED, SIX_UNITS, SMALL, TRIPLE, Key
-from keys import random_f, random_message, random_parameters, random_reduced, random_triples, scattered
+from etru_reference import PRIVATE_FILE, PUBLIC_FILE, SEALED_FILE, SHORT_FILE
+from keys import KEY_MODULI, ONE, SEALED, SEALED_EMPTY, SIX_UNITS, SMALL, TRIPLE, Key
+from keys import random_f, random_message, random_parameters, random_reduced, random_short_message, random_triples
+from keys import scattered
 from library import ROOT, Library
 
 PROGRAM = os.path.join(ROOT, "target", "bin", "etru_open")
@@ -31,7 +32,12 @@ MEGABYTE = 10**6
 # ---- files, right and wrong
 
 # the arrays of each kind in stored order, each with the number of its check
-ORDER = {PUBLIC_FILE: [(12, "h")], PRIVATE_FILE: [(8, "f"), (11, "f2"), (12, "fq"), (9, "g")], SEALED_FILE: [(12, "e")]}
+ORDER = {
+    PUBLIC_FILE: [(12, "h")],
+    PRIVATE_FILE: [(8, "f"), (11, "f2"), (12, "fq"), (9, "g")],
+    SEALED_FILE: [(12, "e")],
+    SHORT_FILE: [(12, "e")],
+}
 KINDS = sorted(reference.KINDS)
 # those that are made of arrays alone, which etru_read and etru_write take
 ARRAY_KINDS = [kind for kind in KINDS if reference.KINDS[kind]]
@@ -92,13 +98,14 @@ class Input:
 
 
 class Files:
-    """The files of a key and of a random message that is sealed for it."""
+    """The files of a key and of random messages, a full and a short one, that are sealed for it."""
 
     def __init__(self, rng, key):
         self.rng, self.p, self.h = rng, key.p, key.h()
         self.private = File(PRIVATE_FILE, self.p, [key.f, key.f2, key.fq, key.g])
         self.public = File(PUBLIC_FILE, self.p, [self.h])
         self.message, self.sealed = self.seal("random")
+        self.short_message, self.short = self.seal_short()
 
     def seal(self, message_kind):
         n = self.p.n
@@ -107,11 +114,18 @@ class Files:
         _, e = reference.call_seal(self.p, self.h, phi, message, 2 * n)
         return (message, File(SEALED_FILE, self.p, [e]))
 
+    def seal_short(self):
+        n = self.p.n
+        message = random_short_message(self.rng, n)
+        phi = random_triples(self.rng, n, self.p.s)
+        _, e = reference.call_seal_short(self.p, self.h, phi, message, 2 * n)
+        return (message, File(SHORT_FILE, self.p, [e]))
+
     def input(self):
         return Input(self.private, self.sealed)
 
     def all(self):
-        return [self.public, self.private, self.sealed]
+        return [self.public, self.private, self.sealed, self.short]
 
 
 # ---- changes that make a check apply
@@ -233,6 +247,8 @@ DOCUMENTED_PRIVATE = bytes.fromhex(
     + "0001 0000 0000 0001 FFFF FFFF"
 )
 DOCUMENTED_SEALED = bytes.fromhex("45495A 0001 03 0003 000F 0000 0003 0001 0007 0000 FFFF 0005 FFFA FFFA")
+# the empty message, sealed with that key
+EXAMPLE_SHORT = bytes.fromhex("45495A 0001 05 0003 000F 0000 0003 0001 0007 0000 0000 0006 FFFA FFFA")
 
 
 def documented_inputs():
@@ -406,7 +422,7 @@ def own_head_inputs(rng):
 
 def other_files(files):
     """Files of other kinds, in another order, missing and too many."""
-    public, private, sealed = (file.bytes() for file in files.all())
+    public, private, sealed, short = (file.bytes() for file in files.all())
     _, bundle = reference.call_write_bundle(files.p, [1], files.sealed.numbers(), reference.bundle_bytes(files.p.n, 1))
     for what, data, number in [
         ("nothing", b"", 16),
@@ -417,6 +433,9 @@ def other_files(files):
         ("the public file second", private + public, 19),
         ("a bundle first", bundle + sealed, 19),
         ("a bundle second", private + bundle, 19),
+        ("the short file first", short + sealed, 19),
+        ("the short file second", private + short, 19),
+        ("the short file after both", private + sealed + short, 7),
         ("the private file twice", private + private, 19),
         ("the private file twice and the sealed file", private + private + sealed, 19),
         ("the sealed file twice", private + sealed + sealed, 7),
@@ -426,6 +445,9 @@ def other_files(files):
         ("a byte before both", b"\0" + private + sealed, 17),
     ]:
         yield (what, data, refused(number))
+    # a short sealing in a file of kind 3 is opened as a full one
+    full = reference.whole_bytes(reference.short_bits(files.p.n, files.short_message))
+    yield ("a short sealing as kind 3", Input(files.private, files.short.but(kind=SEALED_FILE)).bytes(), opened(full))
 
 
 def long_inputs(rng, files):
@@ -614,7 +636,7 @@ def random_files(rng, n):
     f2 = reference.array(reference.pack(n, random_message(rng, n, "random")))
     f, fq, g = reference.array(random_f(rng, n, p.t)), random_reduced(rng, p), random_triples(rng, n, p.s)
     yield File(PRIVATE_FILE, p, [f, f2, fq, g])
-    for kind in (PUBLIC_FILE, SEALED_FILE):
+    for kind in (PUBLIC_FILE, SEALED_FILE, SHORT_FILE):
         yield File(kind, p, [random_reduced(rng, p)])
 
 
@@ -665,8 +687,9 @@ def reading_and_writing(results, library, rng, all_files):
     for data, file in [
         (DOCUMENTED_PRIVATE, File(PRIVATE_FILE, SMALL, [ONE, ONE, ONE, TRIPLE])),
         (DOCUMENTED_SEALED, File(SEALED_FILE, SMALL, [SEALED])),
+        (EXAMPLE_SHORT, File(SHORT_FILE, SMALL, [SEALED_EMPTY])),
     ]:
-        results.expect(f"document 01's file of kind {file.kind}", file.bytes(), data)
+        results.expect(f"the example's file of kind {file.kind}", file.bytes(), data)
         right_file(results, library, rng, file)
     tried = sorted(file.kind for file in random_files(random.Random(0), 3))
     results.expect("the kinds that are read and written", tried, ARRAY_KINDS)
@@ -686,8 +709,12 @@ def reading_and_writing(results, library, rng, all_files):
         # the numbers of one kind lent as those of another
         one_write(results, library, rng, files.public.but(kind=SEALED_FILE), 0)
         one_write(results, library, rng, files.sealed.but(kind=PUBLIC_FILE), 0)
+        one_write(results, library, rng, files.sealed.but(kind=SHORT_FILE), 0)
+        one_write(results, library, rng, files.short.but(kind=SEALED_FILE), 0)
         one_write(results, library, rng, files.private.but(kind=PUBLIC_FILE), 7)
+        one_write(results, library, rng, files.private.but(kind=SHORT_FILE), 7)
         one_write(results, library, rng, files.sealed.but(kind=PRIVATE_FILE), 7)
+        one_write(results, library, rng, files.short.but(kind=PRIVATE_FILE), 7)
     for _ in range(100):
         one_read(results, library, rng, rng.randint(0, NO_KIND), rng.randbytes(rng.randrange(100)), rng.randrange(20))
 

@@ -183,6 +183,12 @@ def bits(message):
     return [byte >> (7 - place) & 1 for byte in message for place in range(8)]
 
 
+def whole_bytes(listed):
+    """The bytes of these bits; the spare low bits of the last byte are zero."""
+    eights = [listed[at : at + 8] for at in range(0, len(listed), 8)]
+    return bytes(sum(bit << (7 - place) for place, bit in enumerate(eight)) for eight in eights)
+
+
 def spare_bit_set(n, message):
     return any(bits(message)[2 * n :])
 
@@ -193,10 +199,8 @@ def pack(n, message):
     return [(-1, -1) if pair == (1, 1) else pair for pair in m]
 
 
-def unpack(n, m):
-    pairs = [abs(part) for value in m for part in value]
-    pairs += [0] * (8 * message_bytes(n) - 2 * n)
-    return bytes(sum(bit << (7 - place) for place, bit in enumerate(pairs[at : at + 8])) for at in range(0, len(pairs), 8))
+def unpack(m):
+    return whole_bytes([abs(part) for value in m for part in value])
 
 
 # ---- Calls on a parameter set (n, q, s, t); `room` is the length of the lent output
@@ -326,7 +330,69 @@ def call_open(p, f, f2, e, room):
     if number:
         return (number, None)
     a = all_reduced_q(convolve(coefficients(f), coefficients(e)), p.q)
-    return (0, unpack(p.n, all_reduced_2(convolve(coefficients(f2), a))))
+    return (0, unpack(all_reduced_2(convolve(coefficients(f2), a))))
+
+
+# Short messages, document 02's wish 4: "n whole bytes with 8n + 1 at most 2N; after its bits comes one 1 bit, then zeros
+# up to 2N". The document's n is the count of the bytes.
+
+
+def short_bits(n, message):
+    """The 2N bits of a short message."""
+    ended = bits(message) + [1]
+    return ended + [0] * (2 * n - len(ended))
+
+
+def last_one(opened):
+    """The position, counted from 0, of the last 1 bit."""
+    return max(position for position, bit in enumerate(opened) if bit == 1)
+
+
+def not_short(opened):
+    # "if there is no 1 bit or the last one stands at a bit position, counted from 0, that is not a multiple of 8"
+    return 1 not in opened or last_one(opened) % 8 != 0
+
+
+def short_message(opened):
+    """The bytes before the last 1 bit."""
+    return whole_bytes(opened[: last_one(opened)])
+
+
+def largest_short_bytes(n):
+    # "the largest output, (2N - 1)/8 bytes rounded down"
+    return (2 * n - 1) // 8
+
+
+def call_seal_short(p, h, phi, message, room):
+    number = first(
+        p.checks()
+        + [
+            # "the message's length is a matter for 26 and not for 7"
+            (7, lambda: lengths_wrong(p.n, [h, phi], room)),
+            (12, lambda: not reduced_q(coefficients(h), p.q)),
+            (10, lambda: not whole_triples(coefficients(phi), p.s)),
+            (26, lambda: 8 * len(message) + 1 > 2 * p.n),
+        ]
+    )
+    return (number, None) if number else call_seal(p, h, phi, whole_bytes(short_bits(p.n, message)), room)
+
+
+def call_open_short(p, f, f2, e, room):
+    """The value is the message, whose length is the n returned."""
+    number = first(p.checks() + [(7, lambda: room != largest_short_bytes(p.n))])
+    if number:
+        return (number, None)
+    number, message = call_open(p, f, f2, e, message_bytes(p.n))
+    if number:
+        return (number, None)
+    opened = bits(message)[: 2 * p.n]
+    number = first([(27, lambda: not_short(opened))])
+    return (number, None if number else short_message(opened))
+
+
+def after_opening_short(message, before):
+    """What the lent output holds afterwards: "bytes past the n returned keep what they held"."""
+    return [*message, *before[len(message) :]]
 
 
 def call_pack(n, message, room):
@@ -348,12 +414,12 @@ def call_unpack(n, m, room):
             (11, lambda: not reduced_2(coefficients(m))),
         ]
     )
-    return (number, None if number else unpack(n, coefficients(m)))
+    return (number, None if number else unpack(coefficients(m)))
 
 
 # ---- Files, as bytes: a head of 16, then arrays of 2N signed 16-bit numbers; numbers are big-endian
 
-PUBLIC_FILE, PRIVATE_FILE, SEALED_FILE, BUNDLE_FILE = 1, 2, 3, 4
+PUBLIC_FILE, PRIVATE_FILE, SEALED_FILE, BUNDLE_FILE, SHORT_FILE = 1, 2, 3, 4, 5
 
 # the arrays of each kind in stored order, each as the number of its check and the condition
 KINDS = {
@@ -370,6 +436,8 @@ KINDS = {
     SEALED_FILE: [(12, lambda p, e: not reduced_q(e, p.q))],
     # entries and no arrays of its own
     BUNDLE_FILE: [],
+    # e of a short message: document 02's wish 4, "kind 5, laid out like kind 3"
+    SHORT_FILE: [(12, lambda p, e: not reduced_q(e, p.q))],
 }
 
 

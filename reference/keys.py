@@ -12,6 +12,8 @@ SMALL = reference.Parameters(3, (15, 0), 3, 1)
 ONE = [1, 0, 0, 0, 0, 0]
 TRIPLE = [1, 0, 0, 1, -1, -1]
 SEALED = [7, 0, -1, 5, -6, -6]
+# the empty message of document 02's wish 4, bits 100000, sealed with the same key and φ, by hand
+SEALED_EMPTY = [7, 0, 0, 6, -6, -6]
 
 # six units of sum zero, by their numbers, and whether they are in whole triples
 SIX_UNITS = [
@@ -197,12 +199,24 @@ def random_triples(rng, n, s):
     return scattered(rng, n, units_in_triples(rng, s))
 
 
+def random_bytes(rng, length, kind):
+    """All bits zero, all bits one or random bits."""
+    return [{"zero": 0, "one": 255}.get(kind, rng.randrange(256)) for _ in range(length)]
+
+
 def random_message(rng, n, kind):
-    """All bits zero, all bits one or random bits; the spare bits are zero."""
+    """The same in a full message; the spare bits are zero."""
     length = reference.message_bytes(n)
-    message = [{"zero": 0, "one": 255}.get(kind, rng.randrange(256)) for _ in range(length)]
+    message = random_bytes(rng, length, kind)
     message[-1] &= 256 - 2 ** (8 * length - 2 * n)
     return message
+
+
+def random_short_message(rng, n):
+    """No bytes, the most, or between."""
+    most = reference.largest_short_bytes(n)
+    length = rng.choice([0, most, rng.randint(0, most)])
+    return random_bytes(rng, length, rng.choice(["zero", "one", "random", "random"]))
 
 
 def random_reduced(rng, p):

@@ -41,6 +41,8 @@ ARGUMENTS = {
     "etru_seal_places": PARAMETERS + NUMBERS + PLACES + BYTES + NUMBERS,
     "etru_spread_places": PARAMETERS + PLACES + NUMBERS,
     "etru_open": PARAMETERS + 3 * NUMBERS + BYTES,
+    "etru_seal_short": PARAMETERS + 2 * NUMBERS + BYTES + NUMBERS,
+    "etru_open_short": PARAMETERS + 3 * NUMBERS + BYTES + outputs(SIZE),
     "etru_pack": [U32] + BYTES + NUMBERS,
     "etru_unpack": [U32] + NUMBERS + BYTES,
     "etru_read_head": [U32] + BYTES + outputs(*PARAMETERS),
@@ -97,6 +99,13 @@ def call(function, head, inputs, output, after=()):
     return (number, arguments[-2][: len(output)])
 
 
+def call_with_length(function, head, inputs, output, used_before):
+    """The same where the length used of the output follows it; return that length too, as it is afterwards."""
+    used = SIZE(used_before)
+    number, after = call(function, head, inputs, output, [ctypes.byref(used)])
+    return (number, after, used.value)
+
+
 def call_with_numbers(function, head, inputs, before):
     """The same where each output is one number."""
     arguments = with_slices(function, head, inputs)
@@ -140,6 +149,13 @@ class Library:
     def open(self, n, q, s, t, f, f2, e, before):
         return call(self.library.etru_open, (n, *q, s, t), [f, f2, e], before)
 
+    def seal_short(self, n, q, s, t, h, phi, message, before):
+        return call(self.library.etru_seal_short, (n, *q, s, t), [h, phi, message], before)
+
+    def open_short(self, n, q, s, t, f, f2, e, before, used_before):
+        """Returns the number, the message's room and the length used."""
+        return call_with_length(self.library.etru_open_short, (n, *q, s, t), [f, f2, e], before, used_before)
+
     def pack(self, n, message, before):
         return call(self.library.etru_pack, (n,), [message], before)
 
@@ -180,6 +196,4 @@ class Library:
 
     def open_files(self, data, before, used_before):
         """Returns the number, the line's room and the length used."""
-        used = SIZE(used_before)
-        number, line = call(self.library.etru_open_files, (), [data], before, [ctypes.byref(used)])
-        return (number, line, used.value)
+        return call_with_length(self.library.etru_open_files, (), [data], before, used_before)

@@ -28,6 +28,14 @@ pub const fn message_bytes(n: u32) -> usize {
     n.div_ceil(4) as usize
 }
 
+/// The bytes of the longest short message, which are those to lend to
+/// [`open_short`](crate::open_short): (2N − 1)/8, rounded down.
+#[must_use]
+pub const fn short_message_bytes(n: u32) -> usize {
+    // At the latest the 1 behind it begins the last byte of a message.
+    message_bytes(n).saturating_sub(1)
+}
+
 /// The numbers of all arrays of a file: 2N, and 8N for a private one. Those of a bundle are in its
 /// entries ([`bundle_numbers`]).
 #[must_use]
@@ -49,7 +57,7 @@ pub const fn file_bytes(kind: Kind, n: u32) -> usize {
 
 const fn array_count(kind: Kind) -> usize {
     match kind {
-        Kind::Public | Kind::Sealed => 1,
+        Kind::Public | Kind::Sealed | Kind::Short => 1,
         Kind::Private => 4,
         Kind::Bundle => 0,
     }

@@ -9,8 +9,9 @@
 //!
 //! A polynomial of N coefficients is an array of 2N numbers a0, b0, a1, b1 and so on; coefficient i
 //! is ai + biω. A message is N/4 bytes, rounded up, highest bit first, and the spare low bits of
-//! its last byte are zero. An ephemeral φ is an array too, or a list of its units with their places
-//! ([`PlacedUnit`]). The sealed arrays of a round are one file, a [`Bundle`].
+//! its last byte are zero. A short message is n whole bytes with 8n + 1 at most 2N, also none
+//! ([`seal_short`], [`open_short`]). An ephemeral φ is an array too, or a list of its units with
+//! their places ([`PlacedUnit`]). The sealed arrays of a round are one file, a [`Bundle`].
 //!
 //! The s nonzero coefficients of g, and those of φ, are units in whole triples: equally many of 1,
 //! ω and ω², and equally many of −1, −ω and −ω². Other units are refused, also where their sum is
@@ -19,9 +20,9 @@
 //! Slices of any length, with any contents, and any numbers may be given: what is wrong is refused.
 //! A call that returns an error leaves the outputs that it was lent as they came. No call panics,
 //! allocates or keeps anything, and any may be made from several threads at once. At every N
-//! [`open_files`] takes at most 72 KiB of stack, [`seal_places`] 36 KiB, [`open`], [`open_entry`],
-//! [`check_key`] and [`spread_places`] 28 KiB, [`seal`], [`read`], [`Bundle::new`], [`read_bundle`]
-//! and [`write_bundle`] 12 KiB and each other call 1 KiB.
+//! [`open_files`] takes at most 72 KiB of stack, [`seal_places`] 36 KiB, [`open_short`] 29 KiB,
+//! [`open`], [`open_entry`], [`check_key`] and [`spread_places`] 28 KiB, [`seal`], [`seal_short`],
+//! [`read`], [`Bundle::new`], [`read_bundle`] and [`write_bundle`] 12 KiB and each other call 1 KiB.
 //!
 //! # Example
 //!
@@ -90,8 +91,8 @@ pub use bundles::{
 };
 pub use lengths::{
     array_numbers, bundle_bytes, bundle_numbers, entry_bytes, file_bytes, file_numbers,
-    max_bundle_entries, message_bytes, part_bytes, HEAD_BYTES, LINE_BYTES, MAX_BUNDLE_BYTES,
-    VALUE_LIMIT,
+    max_bundle_entries, message_bytes, part_bytes, short_message_bytes, HEAD_BYTES, LINE_BYTES,
+    MAX_BUNDLE_BYTES, VALUE_LIMIT,
 };
 pub use parameters::Parameters;
 use refusals::outcome;
@@ -129,6 +130,8 @@ pub enum Kind {
     /// arrays alone, so [`read`] and [`write()`] refuse it by 7; [`Bundle`], [`read_bundle`] and
     /// [`write_bundle`] are for it.
     Bundle = 4,
+    /// A sealed short message: e.
+    Short = 5,
 }
 
 /// The remainder of a + bω modulo q = c + dω: the value of the same class with the smallest norm;
@@ -349,6 +352,107 @@ pub fn open(
         )
     };
     outcome(number)
+}
+
+/// Seals a short message with the public key h and the ephemeral φ: what [`seal`] gives with the
+/// message that has its bits, then one 1 bit, then zeros up to 2N, to `e`.
+///
+/// The length of the short message is a matter for 26, and not for 7.
+///
+/// # Errors
+///
+/// Refusals 1 to 6, 7, 12, 10, 26.
+pub fn seal_short(
+    p: Parameters,
+    h: &[i32],
+    phi: &[i32],
+    message: &[u8],
+    e: &mut [i32],
+) -> Result<(), Error> {
+    // SAFETY: each pointer and count are those of one slice, and `e` is borrowed mutably, so it
+    // overlaps no other.
+    let number = unsafe {
+        sys::etru_seal_short(
+            p.n,
+            p.c,
+            p.d,
+            p.s,
+            p.t,
+            h.as_ptr(),
+            h.len(),
+            phi.as_ptr(),
+            phi.len(),
+            message.as_ptr(),
+            message.len(),
+            e.as_mut_ptr(),
+            e.len(),
+        )
+    };
+    outcome(number)
+}
+
+/// Opens the sealed array e as a short message, with f and F2 of the private key: the bytes before
+/// the last 1 of what [`open`] gives. They are written to the front of `message`, and that part is
+/// returned; what stands behind it is left as it came. Lend it [`short_message_bytes`] bytes.
+///
+/// # Errors
+///
+/// Refusals 1 to 6, 7, 8, 11, 12, 27.
+///
+/// # Example
+///
+/// ```
+/// use etru::{Error, Parameters};
+///
+/// # fn main() -> Result<(), Error> {
+/// // N = 5, q = 15, s = 3, t = 1; f = F2 = 1 and h = φ = 1 + ωX + (−1 − ω)X²
+/// let p = Parameters::new(5, 15, 0, 3, 1)?;
+/// let one = [1, 0, 0, 0, 0, 0, 0, 0, 0, 0];
+/// let h = [1, 0, 0, 1, -1, -1, 0, 0, 0, 0];
+/// let phi = h;
+///
+/// let mut e = [0; etru::array_numbers(5)];
+/// let mut room = [0; etru::short_message_bytes(5)];
+/// etru::seal_short(p, &h, &phi, &[0xB0], &mut e)?;
+/// assert_eq!(etru::open_short(p, &one, &one, &e, &mut room)?, [0xB0]);
+///
+/// // The empty message is valid.
+/// etru::seal_short(p, &h, &phi, &[], &mut e)?;
+/// assert!(etru::open_short(p, &one, &one, &e, &mut room)?.is_empty());
+/// # Ok(())
+/// # }
+/// ```
+pub fn open_short<'a>(
+    p: Parameters,
+    f: &[i32],
+    f2: &[i32],
+    e: &[i32],
+    message: &'a mut [u8],
+) -> Result<&'a [u8], Error> {
+    let mut used = 0;
+    // SAFETY: each pointer and count are those of one slice, `message` is borrowed mutably, so it
+    // overlaps no other, and `used` is a place of its own.
+    let number = unsafe {
+        sys::etru_open_short(
+            p.n,
+            p.c,
+            p.d,
+            p.s,
+            p.t,
+            f.as_ptr(),
+            f.len(),
+            f2.as_ptr(),
+            f2.len(),
+            e.as_ptr(),
+            e.len(),
+            message.as_mut_ptr(),
+            message.len(),
+            &mut used,
+        )
+    };
+    outcome(number)?;
+    // No short message is longer than its room.
+    Ok(message.get(..used).unwrap_or(message))
 }
 
 /// The polynomial of N coefficients that a message stands for, to `m`. Pair i of its bits is

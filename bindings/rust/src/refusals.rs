@@ -60,7 +60,7 @@ refusals! {
     HeadTooShort = 16, "fewer than 16 bytes";
     MarkNotEiz = 17, "mark is not EIZ";
     VersionNotOne = 18, "version is not 1";
-    KindNotWanted = 19, "kind is not the one wanted, or not 1 to 4";
+    KindNotWanted = 19, "kind is not the one wanted, or not 1 to 5";
     /// Only the line of [`open_files`](crate::open_files) tells it.
     ParametersDiffer = 20, "the two files' parameters differ";
     ModulusZero = 21, "modulus zero";
@@ -68,6 +68,9 @@ refusals! {
     PlaceOrUnitOutOfRange = 23, "a place is N or more, or a unit number is above 5";
     PlaceOccursTwice = 24, "a place occurs twice";
     StopOccursTwice = 25, "a stop number occurs twice";
+    ShortMessageTooLong = 26, "8n + 1 exceeds 2N, for a short message of n bytes";
+    NotAShortMessage = 27, "no 1 bit, or the last one at a position, counted from 0, that is not \
+        a multiple of 8";
 }
 
 impl Refusal {

@@ -107,6 +107,39 @@ extern "C" {
         message_count: usize,
     ) -> u32;
 
+    pub fn etru_seal_short(
+        n: u32,
+        c: i32,
+        d: i32,
+        s: u32,
+        t: u32,
+        h: *const i32,
+        h_count: usize,
+        phi: *const i32,
+        phi_count: usize,
+        message: *const u8,
+        message_count: usize,
+        e: *mut i32,
+        e_count: usize,
+    ) -> u32;
+
+    pub fn etru_open_short(
+        n: u32,
+        c: i32,
+        d: i32,
+        s: u32,
+        t: u32,
+        f: *const i32,
+        f_count: usize,
+        f2: *const i32,
+        f2_count: usize,
+        e: *const i32,
+        e_count: usize,
+        message: *mut u8,
+        message_count: usize,
+        used: *mut usize,
+    ) -> u32;
+
     pub fn etru_pack(
         n: u32,
         message: *const u8,

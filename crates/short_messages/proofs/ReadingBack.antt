@@ -14,7 +14,7 @@ use Rattle.packing.specs.Promises.{Bytes}
 use Rattle.packing.proofs.RoundTrips.{bitOf-lt, listed-length, listed-at, listed-bit, listed-bytes, listed-is, spare-zero, zero-spare}
 use Rattle.short_messages.specs.declared.LastOne.{LastOne}
 use Rattle.short_messages.specs.declared.LastOne.the-variants.{At, Nowhere}
-use Rattle.short_messages.specs.ShortMessages.{paddedBit, padded, lastOne, endsNone, notShort, bytesBefore, shortOf}
+use Rattle.short_messages.specs.ShortMessages.{paddedBit, padded, lastOne, endsNoShort, notShort, bytesBefore, shortOf}
 use Rattle.short_messages.specs.Promises.{Short, Longest-is-largest, PaddedBits, Padded-bits, Padded-whole, Padded-reads, Padded-distinct, Read-from-just-one}
 use Rattle.short_messages.proofs.LastOnes.{last-is, Last, last-known}
 use Rattle.short_messages.proofs.PaddedBits.{own-bit, one-bit, zero-bit, padded-lt, own-byte}
@@ -82,7 +82,7 @@ padded-reads N short s =
     let e = padded-last N short s in
     let m : 8 * length short % 8 ≡ 0 = omega arith in
     let d : 8 * length short / 8 ≡ length short = omega arith in (
-      ap endsNone e ∙ ap not (eq-eqb (8 * length short % 8) 0 m),
+      ap endsNoShort e ∙ ap not (eq-eqb (8 * length short % 8) 0 m),
       ap (λ (o : LastOne). bytesBefore o (padded N short)) e ∙ ap (λ (n : ℕ). take n (padded N short)) d ∙ padded-front N short s,
     )
 
@@ -118,7 +118,7 @@ ends : (N : ℕ) (message : List ℕ) → notShort N message ≡ false → Ends 
 unfolding notShort
 ends N message e = go (lastOne (2 * N) (bitOf message)) refl e
   where
-    go : (o : LastOne) → lastOne (2 * N) (bitOf message) ≡ o → endsNone o ≡ false → Ends N message
+    go : (o : LastOne) → lastOne (2 * N) (bitOf message) ≡ o → endsNoShort o ≡ false → Ends N message
     go (At k) h t = record { place = k; last = h; byte-first = eqb→eq (k % 8) 0 (subst T (sym (unset (eqb (k % 8) 0) t)) tt) }
       where
         unset : (b : Bool) → not b ≡ false → b ≡ true

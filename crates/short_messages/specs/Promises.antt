@@ -14,7 +14,7 @@ pub record Short (N : ℕ) (short : List ℕ) : Type 0 where
   pub bytes : Bytes short
   pub fits : 8 * length short + 1 ≤ 2 * N
 
--- "the largest output": a short message has that many bytes at most, and where N is not 0, there is room for each that is no longer.
+-- "the largest output": where N is not 0, the short messages are those of so many bytes at most.
 abbrev pub Longest-is-largest : Type 0
 Longest-is-largest = (N n : ℕ) → 1 ≤ N → ((8 * n + 1 ≤ 2 * N → n ≤ longestShort N) × (n ≤ longestShort N → 8 * n + 1 ≤ 2 * N))
 

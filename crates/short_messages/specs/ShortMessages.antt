@@ -33,12 +33,12 @@ lastOne zero bit = Nowhere
 lastOne (suc k) bit = cond (eqb (bit k) 1) (At k) (lastOne k bit)
 
 -- "if there is no 1 bit or the last one stands at a bit position, counted from 0, that is not a multiple of 8"
-abbrev pub endsNone : LastOne → Bool
-endsNone (At k) = not (eqb (k % 8) 0)
-endsNone Nowhere = true
+abbrev pub endsNoShort : LastOne → Bool
+endsNoShort (At k) = not (eqb (k % 8) 0)
+endsNoShort Nowhere = true
 
 unfoldable pub notShort : ℕ → List ℕ → Bool
-notShort N message = endsNone (lastOne (2 * N) (bitOf message))
+notShort N message = endsNoShort (lastOne (2 * N) (bitOf message))
 
 -- The short message: the bytes before it.
 abbrev pub bytesBefore : LastOne → List ℕ → List ℕ

@@ -7,7 +7,7 @@ ghost use Rattle.refusals.specs.Outcomes.{outcome, _if_};
 ghost use Rattle.packing.specs.Messages.{messageBytes};
 ghost use Rattle.opened_arrays.specs.Answers.{GivesMessage};
 ghost use Rattle.short_messages.specs.declared.LastOne.the-variants.{At};
-ghost use Rattle.short_messages.specs.ShortMessages.{longestShort, endsNone, notShort, bytesBefore, shortOf};
+ghost use Rattle.short_messages.specs.ShortMessages.{longestShort, endsNoShort, notShort, bytesBefore, shortOf};
 use opened_arrays::Opened;
 use refusals::Refusal;
 use short_messages::LastOne;
@@ -28,7 +28,7 @@ fn copy_front(count: usize, from: &[u8], to: &mut [u8])
 // The bytes before the 1 at bit k, to the front of message, if a byte begins there.
 fn read_before(k: usize, bits: &[u8], message: &mut [u8]) -> Opened
     requires { ⌜ (k / 8 ≤ length (now bits)) × (k / 8 ≤ length (now message)) ⌝ }
-    ensures { λ r. ⌜ GivesMessage (outcome (27 if endsNone (At k) ∷ []) (bytesBefore (At k) (now (bits .entry)))) r (now (message .entry)) (now (message .exit)) ⌝ }
+    ensures { λ r. ⌜ GivesMessage (outcome (27 if endsNoShort (At k) ∷ []) (bytesBefore (At k) (now (bits .entry)))) r (now (message .entry)) (now (message .exit)) ⌝ }
 {
     if k % 8 != 0 {
         return Opened::Refused(Refusal::NotAShortMessage);

@@ -62,6 +62,29 @@ fn agree_on_bytes(
     wanted
 }
 
+/// A call that writes to the front of its output and returns that part. What stands behind it is to
+/// be left as it came.
+fn agree_on_front(
+    rng: &mut Rng,
+    room: usize,
+    wanted: Result<Vec<u8>, u32>,
+    call: impl FnOnce(&mut [u8]) -> Result<&[u8], Error>,
+) -> Result<Vec<u8>, u32> {
+    let before = rng.bytes(room + 2 * MARGIN);
+    let whole = wanted.clone().map(|front| {
+        let behind = &before[MARGIN + front.len()..MARGIN + room];
+        [&front, behind].concat()
+    });
+    agree(before, &whole, |lent| {
+        let start = lent.as_ptr();
+        let front = call(lent)?;
+        assert_eq!(front.as_ptr(), start);
+        assert_eq!(Ok(front), wanted.as_deref().map_err(|&number| number));
+        Ok(())
+    });
+    wanted
+}
+
 pub fn reduce_q(x: Value, q: Value) -> Result<Value, u32> {
     let wanted = definitions::reduce_q(x, q);
     let given = etru::reduce_q(x.0, x.1, q.0 as i32, q.1 as i32);
@@ -156,6 +179,33 @@ pub fn open(
     let wanted = definitions::open(p, f, f2, e, room);
     agree_on_bytes(rng, room, wanted, |message| {
         etru::open(p, f, f2, e, message)
+    })
+}
+
+pub fn seal_short(
+    rng: &mut Rng,
+    p: Parameters,
+    h: &[i32],
+    phi: &[i32],
+    short: &[u8],
+    room: usize,
+) -> Result<Vec<i32>, u32> {
+    let wanted = definitions::seal_short(p, h, phi, short, room);
+    agree_on_numbers(rng, room, wanted, |e| etru::seal_short(p, h, phi, short, e))
+}
+
+/// Returns the short message.
+pub fn open_short(
+    rng: &mut Rng,
+    p: Parameters,
+    f: &[i32],
+    f2: &[i32],
+    e: &[i32],
+    room: usize,
+) -> Result<Vec<u8>, u32> {
+    let wanted = definitions::open_short(p, f, f2, e, room);
+    agree_on_front(rng, room, wanted, |message| {
+        etru::open_short(p, f, f2, e, message)
     })
 }
 
@@ -278,15 +328,11 @@ pub fn walk(file: &[u8]) -> Result<usize, u32> {
     Ok(stored.len())
 }
 
-/// Returns the line. What stands behind it is to be left as it came.
+/// Returns the line.
 pub fn open_files(rng: &mut Rng, input: &[u8]) -> Vec<u8> {
-    let line = definitions::line(input);
-    let before = rng.bytes(etru::LINE_BYTES + 2 * MARGIN);
-    let behind = &before[MARGIN + line.len()..MARGIN + etru::LINE_BYTES];
-    let wanted = Ok([&line, behind].concat());
-    agree(before, &wanted, |room| {
-        assert_eq!(etru::open_files(input, room)?, line);
-        Ok(())
+    let wanted = Ok(definitions::line(input));
+    let line = agree_on_front(rng, etru::LINE_BYTES, wanted, |line| {
+        etru::open_files(input, line)
     });
-    line
+    line.expect("every input has its line")
 }

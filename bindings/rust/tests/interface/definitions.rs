@@ -333,13 +333,18 @@ fn packed(n: u32, message: &[u8]) -> Vec<Value> {
     pairs.map(pair).collect()
 }
 
-fn unpacked(m: &[Value]) -> Vec<u8> {
-    let bits: Vec<bool> = m.iter().flat_map(|&(a, b)| [a != 0, b != 0]).collect();
-    let byte = |bits: &[bool]| {
+/// The bytes of these bits; spare ones are zero.
+fn bytes(bits: &[u8]) -> Vec<u8> {
+    let byte = |bits: &[u8]| {
         let places = bits.iter().zip((0..8).rev());
-        places.map(|(&bit, place)| u8::from(bit) << place).sum()
+        places.map(|(&bit, place)| bit << place).sum()
     };
     bits.chunks(8).map(byte).collect()
+}
+
+fn unpacked(m: &[Value]) -> Vec<u8> {
+    let parts = m.iter().flat_map(|&(a, b)| [a, b]);
+    bytes(&parts.map(|part| u8::from(part != 0)).collect::<Vec<u8>>())
 }
 
 pub fn pack(n: u32, message: &[u8], room: usize) -> Result<Vec<i32>, u32> {
@@ -359,6 +364,60 @@ pub fn unpack(n: u32, m: &[i32], room: usize) -> Result<Vec<u8>, u32> {
     Ok(unpacked(&coefficients(m)))
 }
 
+// ---- Short messages, document 02: "n whole bytes with 8n + 1 at most 2N"
+
+/// "the largest output, (2N − 1)/8 bytes rounded down"
+pub fn short_message_bytes(n: u32) -> usize {
+    ((2.0 * f64::from(n) - 1.0) / 8.0).floor() as usize
+}
+
+/// The message of a short one: "after its bits comes one 1 bit, then zeros up to 2N".
+pub fn padded(n: u32, short: &[u8]) -> Vec<u8> {
+    let mut padded = bits(short);
+    padded.push(1);
+    padded.resize(2 * n as usize, 0);
+    bytes(&padded)
+}
+
+/// The bytes before the last 1; "27 ... if there is no 1 bit or the last one stands at a bit
+/// position, counted from 0, that is not a multiple of 8".
+fn short_of(message: &[u8]) -> Result<Vec<u8>, u32> {
+    let Some(last) = bits(message).iter().rposition(|&bit| bit == 1) else {
+        return Err(27);
+    };
+    refuse(27, last % 8 != 0)?;
+    Ok(message[..last / 8].to_vec())
+}
+
+pub fn seal_short(
+    p: Parameters,
+    h: &[i32],
+    phi: &[i32],
+    short: &[u8],
+    room: usize,
+) -> Result<Vec<i32>, u32> {
+    check_parameters(p)?;
+    refuse(7, !all_full(p, &[h.len(), phi.len(), room]))?;
+    refuse(12, !reduced_q(h, modulus(p)))?;
+    refuse(10, !whole_triples(phi, p.s))?;
+    refuse(26, 8 * short.len() + 1 > 2 * p.n as usize)?;
+    // nothing is left to refuse
+    seal(p, h, phi, &padded(p.n, short), room)
+}
+
+pub fn open_short(
+    p: Parameters,
+    f: &[i32],
+    f2: &[i32],
+    e: &[i32],
+    room: usize,
+) -> Result<Vec<u8>, u32> {
+    check_parameters(p)?;
+    refuse(7, room != short_message_bytes(p.n))?;
+    // 7 for the arrays, 8, 11 and 12, and "after the arithmetic" 27
+    short_of(&open(p, f, f2, e, message_bytes(p.n))?)
+}
+
 // ---- Files
 
 fn array_count(kind: Kind) -> usize {
@@ -367,6 +426,8 @@ fn array_count(kind: Kind) -> usize {
         Kind::Private => 4,
         Kind::Sealed => 1,
         Kind::Bundle => 0,
+        // "laid out like kind 3"
+        Kind::Short => 1,
     }
 }
 
@@ -391,7 +452,7 @@ fn check_arrays(kind: Kind, p: Parameters, numbers: &[i32]) -> Result<(), u32> {
     let q = modulus(p);
     let arrays: Vec<&[i32]> = numbers.chunks(2 * p.n as usize).collect();
     match kind {
-        Kind::Public | Kind::Sealed => refuse(12, !reduced_q(arrays[0], q)),
+        Kind::Public | Kind::Sealed | Kind::Short => refuse(12, !reduced_q(arrays[0], q)),
         Kind::Private => {
             refuse(8, !units_only(arrays[0], p.t))?;
             refuse(11, !reduced_2(arrays[1]))?;

@@ -3,7 +3,8 @@
 use etru::{Parameters, PlacedUnit};
 
 use crate::definitions::{
-    array, coefficients, message_bytes, modulus, norm, remainder_q, Value, UNITS,
+    array, coefficients, message_bytes, modulus, norm, remainder_q, short_message_bytes, Value,
+    UNITS,
 };
 
 /// splitmix64.
@@ -144,6 +145,14 @@ impl Rng {
     pub fn message(&mut self, n: u32) -> Vec<u8> {
         let bytes = self.bytes(message_bytes(n));
         without_spare_bits(n, bytes)
+    }
+
+    /// A short message: none, the longest, or between.
+    pub fn short_message(&mut self, n: u32) -> Vec<u8> {
+        let most = short_message_bytes(n);
+        let between = self.index(most + 1);
+        let length = self.one_of(&[0, between, most]);
+        self.bytes(length)
     }
 
     /// s and t at an end of what the bound allows, or between; none if the norm of q is too small

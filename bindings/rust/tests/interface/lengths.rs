@@ -4,7 +4,13 @@ use etru::{Kind, Parameters};
 
 use crate::definitions;
 
-const KINDS: &[Kind] = &[Kind::Public, Kind::Private, Kind::Sealed, Kind::Bundle];
+const KINDS: &[Kind] = &[
+    Kind::Public,
+    Kind::Private,
+    Kind::Sealed,
+    Kind::Bundle,
+    Kind::Short,
+];
 
 #[test]
 fn limits_of_parameters() {
@@ -36,6 +42,10 @@ fn lengths_of_arrays_messages_and_files() {
     for n in (0..=1100).chain([65535, u32::MAX - 1, u32::MAX]) {
         assert_eq!(etru::array_numbers(n), 2 * n as usize);
         assert_eq!(etru::message_bytes(n), definitions::message_bytes(n));
+        assert_eq!(
+            etru::short_message_bytes(n),
+            definitions::short_message_bytes(n)
+        );
         for &kind in KINDS {
             assert_eq!(
                 etru::file_numbers(kind, n),
@@ -46,6 +56,18 @@ fn lengths_of_arrays_messages_and_files() {
     }
     assert_eq!(etru::file_bytes(Kind::Private, 3), 64);
     assert_eq!(etru::file_bytes(Kind::Sealed, 3), 28);
+    assert_eq!(etru::file_bytes(Kind::Short, 3), 28);
+    for (n, most) in [
+        (3, 0),
+        (4, 0),
+        (5, 1),
+        (8, 1),
+        (9, 2),
+        (1021, 255),
+        (1024, 255),
+    ] {
+        assert_eq!(etru::short_message_bytes(n), most);
+    }
 }
 
 #[test]

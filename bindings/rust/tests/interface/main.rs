@@ -11,6 +11,7 @@ mod keys;
 mod lengths;
 mod random_keys;
 mod refusals;
+mod short_messages;
 mod spoiled_calls;
 mod values;
 mod whole_triples;

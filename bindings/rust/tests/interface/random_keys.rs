@@ -71,7 +71,7 @@ fn bundle(rng: &mut Rng, key: &Key, stops: &[u16], numbers: &[i32], messages: &[
 }
 
 /// Writes a file and reads it back.
-fn file(rng: &mut Rng, kind: Kind, p: Parameters, numbers: &[i32]) -> Vec<u8> {
+pub fn file(rng: &mut Rng, kind: Kind, p: Parameters, numbers: &[i32]) -> Vec<u8> {
     let length = file_bytes(kind, p.n);
     let file = calls::write(rng, kind, p, numbers, length).expect("all is in its set");
     assert_eq!(calls::read_head(kind, &file), Ok(p));

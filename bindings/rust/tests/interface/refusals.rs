@@ -7,6 +7,7 @@ use etru::{Bundle, Error, Kind, Parameters, PlacedUnit, Refusal};
 use crate::document_01::{
     private_file, BUNDLE_FILE, ONE, PLACES, SEALED, SEALED_FILE, SMALL, TRIPLE,
 };
+use crate::short_messages::{EMPTY, FIVE, FIVE_ONE, FIVE_TRIPLE, SHORT_FILE};
 
 fn is_refused<T: Debug + PartialEq>(given: Result<T, Error>, refusal: Refusal, number: u32) {
     assert_eq!(given, Err(Error::Refused(refusal)));
@@ -93,7 +94,17 @@ fn parameters_are_refused(p: Parameters, refusal: Refusal, number: u32) {
         refusal,
         number,
     );
+    is_refused(
+        etru::seal_short(p, &TRIPLE, &TRIPLE, &[], &mut numbers),
+        refusal,
+        number,
+    );
     assert_eq!(numbers, [77; 6]);
+    is_refused(
+        etru::open_short(p, &ONE, &ONE, &EMPTY, &mut []),
+        refusal,
+        number,
+    );
     let mut message = [77];
     is_refused(
         etru::open(p, &ONE, &ONE, &SEALED, &mut message),
@@ -107,7 +118,7 @@ fn parameters_are_refused(p: Parameters, refusal: Refusal, number: u32) {
     );
     assert_eq!(message, [77]);
     let mut file = [77; 28];
-    for kind in [Kind::Sealed, Kind::Bundle] {
+    for kind in [Kind::Sealed, Kind::Bundle, Kind::Short] {
         is_refused(etru::write(kind, p, &SEALED, &mut file), refusal, number);
     }
     is_refused(
@@ -328,6 +339,65 @@ fn refusal_07_wrong_length() {
     }
 }
 
+/// Refusal 7 of short messages, for all but the length of the message that is sealed.
+#[test]
+fn wrong_lengths_of_short_messages() {
+    let refusal = Refusal::WrongLength;
+    for length in [0, 6, 9, 11, 12] {
+        let wrong = &[0; 12][..length];
+        let mut e = [77; 10];
+        for [h, phi] in [[wrong, &FIVE_TRIPLE], [&FIVE_TRIPLE, wrong]] {
+            let given = etru::seal_short(FIVE, h, phi, &[0xB0], &mut e);
+            is_refused(given, refusal, 7);
+        }
+        assert_eq!(e, [77; 10]);
+        let mut message = [77];
+        for [f, f2, e] in [
+            [wrong, &FIVE_ONE, &FIVE_ONE],
+            [&FIVE_ONE, wrong, &FIVE_ONE],
+            [&FIVE_ONE, &FIVE_ONE, wrong],
+        ] {
+            let given = etru::open_short(FIVE, f, f2, e, &mut message);
+            is_refused(given, refusal, 7);
+        }
+        assert_eq!(message, [77]);
+
+        let mut e = vec![77; length];
+        let given = etru::seal_short(FIVE, &FIVE_TRIPLE, &FIVE_TRIPLE, &[0xB0], &mut e);
+        is_refused(given, refusal, 7);
+        assert_eq!(e, vec![77; length]);
+    }
+    // opening in full writes 2 bytes
+    for length in [0, 2, 3, 10] {
+        let mut message = vec![77; length];
+        let given = etru::open_short(FIVE, &FIVE_ONE, &FIVE_ONE, &FIVE_ONE, &mut message);
+        is_refused(given, refusal, 7);
+        assert_eq!(message, vec![77; length]);
+    }
+    let mut message = [77];
+    let given = etru::open_short(SMALL, &ONE, &ONE, &EMPTY, &mut message);
+    is_refused(given, refusal, 7);
+    assert_eq!(message, [77]);
+
+    let longer = [&SHORT_FILE[..], &[0]].concat();
+    for (file, room) in [
+        (&SHORT_FILE[..27], 6),
+        (&longer, 6),
+        (&SHORT_FILE, 5),
+        (&SHORT_FILE, 7),
+    ] {
+        let mut numbers = vec![77; room];
+        is_refused(etru::read(Kind::Short, file, &mut numbers), refusal, 7);
+        assert_eq!(numbers, vec![77; room]);
+    }
+    for (numbers, bytes) in [(&EMPTY[..5], 28), (&[0; 7], 28), (&EMPTY, 27), (&EMPTY, 29)] {
+        let mut file = vec![77; bytes];
+        let written = etru::write(Kind::Short, SMALL, numbers, &mut file);
+        is_refused(written, refusal, 7);
+        assert_eq!(file, vec![77; bytes]);
+    }
+}
+
 /// Refusal 7 of bundles and of their parts.
 #[test]
 fn wrong_lengths_of_bundles() {
@@ -406,6 +476,11 @@ fn refusal_08_f_not_in_its_set() {
             8,
         );
         assert_eq!(message, [77]);
+        is_refused(
+            etru::open_short(SMALL, &f, &ONE, &EMPTY, &mut []),
+            refusal,
+            8,
+        );
         let mut file = [77; 64];
         let numbers = [f, ONE, ONE, TRIPLE].concat();
         is_refused(
@@ -446,6 +521,8 @@ fn refusal_10_phi_not_in_its_set() {
         let mut e = [77; 6];
         let given = etru::seal(SMALL, &TRIPLE, &phi, &[0xB0], &mut e);
         is_refused(given, Refusal::PhiNotInItsSet, 10);
+        let given = etru::seal_short(SMALL, &TRIPLE, &phi, &[], &mut e);
+        is_refused(given, Refusal::PhiNotInItsSet, 10);
         assert_eq!(e, [77; 6]);
     }
     for units in [[0, 0, 0], [0, 2, 3], [5, 2, 4]] {
@@ -473,6 +550,11 @@ fn refusal_11_not_reduced_modulo_2() {
         );
         is_refused(etru::unpack(3, &x, &mut message), refusal, 11);
         assert_eq!(message, [77]);
+        is_refused(
+            etru::open_short(SMALL, &ONE, &x, &EMPTY, &mut []),
+            refusal,
+            11,
+        );
     }
 }
 
@@ -502,13 +584,24 @@ fn refusal_12_not_reduced_modulo_q() {
             refusal,
             12,
         );
+        is_refused(
+            etru::seal_short(SMALL, &x, &TRIPLE, &[], &mut out),
+            refusal,
+            12,
+        );
         assert_eq!(out, [77; 6]);
         let mut message = [77];
         is_refused(etru::open(SMALL, &ONE, &ONE, &x, &mut message), refusal, 12);
         assert_eq!(message, [77]);
+        is_refused(
+            etru::open_short(SMALL, &ONE, &ONE, &x, &mut []),
+            refusal,
+            12,
+        );
         let mut file = [77; 28];
         is_refused(etru::write(Kind::Public, SMALL, &x, &mut file), refusal, 12);
         is_refused(etru::write(Kind::Sealed, SMALL, &x, &mut file), refusal, 12);
+        is_refused(etru::write(Kind::Short, SMALL, &x, &mut file), refusal, 12);
         assert_eq!(file, [77; 28]);
         for arrays in [[x, ONE], [ONE, x]] {
             let mut file = [77; 46];
@@ -584,13 +677,18 @@ fn refusal_16_head_too_short() {
             Refusal::HeadTooShort,
             16,
         );
+        file_is_refused(
+            Kind::Short,
+            &SHORT_FILE[..length],
+            Refusal::HeadTooShort,
+            16,
+        );
         bundle_head_is_refused(&BUNDLE_FILE[..length], Refusal::HeadTooShort, 16);
     }
 }
 
-/// The sealed file with one byte changed.
-fn sealed_file_but(place: usize, byte: u8) -> [u8; 28] {
-    let mut file = SEALED_FILE;
+/// The file of a sealed message, or of a short one, with one byte changed.
+fn file_but(mut file: [u8; 28], place: usize, byte: u8) -> [u8; 28] {
     file[place] = byte;
     file
 }
@@ -598,8 +696,10 @@ fn sealed_file_but(place: usize, byte: u8) -> [u8; 28] {
 #[test]
 fn refusal_17_mark_not_eiz() {
     for place in 0..3 {
-        let file = sealed_file_but(place, b'e');
+        let file = file_but(SEALED_FILE, place, b'e');
         file_is_refused(Kind::Sealed, &file, Refusal::MarkNotEiz, 17);
+        let file = file_but(SHORT_FILE, place, b'e');
+        file_is_refused(Kind::Short, &file, Refusal::MarkNotEiz, 17);
         bundle_head_is_refused(&bundle_but(place, b"e"), Refusal::MarkNotEiz, 17);
     }
 }
@@ -607,24 +707,33 @@ fn refusal_17_mark_not_eiz() {
 #[test]
 fn refusal_18_version_not_one() {
     for (place, byte) in [(3, 1), (4, 0), (4, 2)] {
-        let file = sealed_file_but(place, byte);
+        let file = file_but(SEALED_FILE, place, byte);
         file_is_refused(Kind::Sealed, &file, Refusal::VersionNotOne, 18);
+        let file = file_but(SHORT_FILE, place, byte);
+        file_is_refused(Kind::Short, &file, Refusal::VersionNotOne, 18);
         bundle_head_is_refused(&bundle_but(place, &[byte]), Refusal::VersionNotOne, 18);
     }
 }
 
 #[test]
 fn refusal_19_kind_not_wanted() {
-    for kind in [Kind::Public, Kind::Private, Kind::Bundle] {
+    for kind in [Kind::Public, Kind::Private, Kind::Bundle, Kind::Short] {
         file_is_refused(kind, &SEALED_FILE, Refusal::KindNotWanted, 19);
     }
-    for kind in [Kind::Public, Kind::Private, Kind::Sealed] {
+    for kind in [Kind::Public, Kind::Private, Kind::Sealed, Kind::Short] {
         file_is_refused(kind, &BUNDLE_FILE, Refusal::KindNotWanted, 19);
     }
+    for kind in [Kind::Public, Kind::Private, Kind::Sealed, Kind::Bundle] {
+        file_is_refused(kind, &SHORT_FILE, Refusal::KindNotWanted, 19);
+    }
     file_is_refused(Kind::Sealed, &private_file(), Refusal::KindNotWanted, 19);
-    for byte in [0, 4, 5, 255] {
-        let file = sealed_file_but(5, byte);
+    for byte in [0, 4, 5, 6, 255] {
+        let file = file_but(SEALED_FILE, 5, byte);
         file_is_refused(Kind::Sealed, &file, Refusal::KindNotWanted, 19);
+    }
+    for byte in [0, 3, 4, 6, 255] {
+        let file = file_but(SHORT_FILE, 5, byte);
+        file_is_refused(Kind::Short, &file, Refusal::KindNotWanted, 19);
     }
     for byte in [0, 1, 2, 3, 5, 255] {
         bundle_head_is_refused(&bundle_but(5, &[byte]), Refusal::KindNotWanted, 19);
@@ -635,7 +744,7 @@ fn refusal_19_kind_not_wanted() {
 #[test]
 fn refusal_20_parameters_differ() {
     let mut line = [77; etru::LINE_BYTES];
-    let input = [&private_file()[..], &sealed_file_but(9, 17)].concat();
+    let input = [&private_file()[..], &file_but(SEALED_FILE, 9, 17)].concat();
     assert_eq!(etru::open_files(&input, &mut line), Ok(&b"20 -\n"[..]));
     assert_eq!(line[5..], [77; etru::LINE_BYTES - 5]);
     is_refused::<()>(
@@ -709,6 +818,56 @@ fn refusal_25_stop_occurs_twice() {
     }
 }
 
+#[test]
+fn refusal_26_short_message_too_long() {
+    let refusal = Refusal::ShortMessageTooLong;
+    let long = [0x80; 1000];
+    for length in [2, 3, 10, 256, 1000] {
+        let mut e = [77; 10];
+        let given = etru::seal_short(FIVE, &FIVE_TRIPLE, &FIVE_TRIPLE, &long[..length], &mut e);
+        is_refused(given, refusal, 26);
+        assert_eq!(e, [77; 10]);
+    }
+    // at N = 3 a message has one byte, and a short one none
+    let mut e = [77; 6];
+    let given = etru::seal_short(SMALL, &TRIPLE, &TRIPLE, &[0xB0], &mut e);
+    is_refused(given, refusal, 26);
+    assert_eq!(e, [77; 6]);
+    // at N = 4 the bits of one byte are 2N, and leave no room for the 1
+    let four = Parameters { n: 4, ..SMALL };
+    let (phi, mut e) = ([1, 0, 0, 1, -1, -1, 0, 0], [77; 8]);
+    let given = etru::seal_short(four, &phi, &phi, &[0xB0], &mut e);
+    is_refused(given, refusal, 26);
+    assert_eq!(e, [77; 8]);
+}
+
+/// No 1 bit, or 1 bits of which the last does not end a short message; a 1 at 0 or 8 alone would.
+#[test]
+fn refusal_27_not_a_short_message() {
+    for ones in [
+        &[][..],
+        &[1],
+        &[2],
+        &[4],
+        &[7],
+        &[9],
+        &[0, 1],
+        &[0, 7],
+        &[0, 9],
+        &[8, 9],
+        &[0, 3, 5, 6],
+        &[0, 1, 2, 3, 4, 5, 6, 7, 8, 9],
+    ] {
+        // with f = F2 = 1 its numbers are the bits
+        let mut e = [0; 10];
+        ones.iter().for_each(|&k: &usize| e[k] = 1);
+        let mut message = [77];
+        let given = etru::open_short(FIVE, &FIVE_ONE, &FIVE_ONE, &e, &mut message);
+        is_refused(given, Refusal::NotAShortMessage, 27);
+        assert_eq!(message, [77]);
+    }
+}
+
 /// Document 02: 25 stands "after 7 and before the entries' own 12".
 #[test]
 fn the_first_refusal_of_bundles_is_given() {
@@ -761,6 +920,49 @@ fn the_first_refusal_of_places_is_given() {
     let no_triple = places([0, 1, 2], [0, 0, 0]);
     check(&TRIPLE, &no_triple, Refusal::PhiNotInItsSet, 10);
     check(&TRIPLE, &PLACES, Refusal::SpareBitSet, 15);
+}
+
+/// Document 02: 26 stands "in the place of 15", after h's 12 and φ's 10, and 27 "after the
+/// arithmetic".
+#[test]
+fn the_first_refusal_of_short_messages_is_given() {
+    let two = Parameters { t: 2, ..FIVE };
+    // 30 is no unit, is not reduced modulo 2 or q, and is 0 modulo both: it would open to zeros
+    let bad = [30; 10];
+    let long = [0xB0, 0xB0];
+    let seal = |p, h: &[i32], phi: &[i32], room: usize, refusal: Refusal, number| {
+        let mut e = vec![77; room];
+        let given = etru::seal_short(p, h, phi, &long, &mut e);
+        is_refused(given, refusal, number);
+        assert_eq!(e, vec![77; room]);
+    };
+    let (h, phi) = (&FIVE_TRIPLE, &FIVE_TRIPLE);
+    seal(two, &bad[1..], &bad, 10, Refusal::BoundNotBelowNorm, 6);
+    seal(FIVE, &bad[1..], &bad, 10, Refusal::WrongLength, 7);
+    seal(FIVE, &bad, &bad[1..], 10, Refusal::WrongLength, 7);
+    seal(FIVE, &bad, &bad, 9, Refusal::WrongLength, 7);
+    seal(FIVE, &bad, &bad, 10, Refusal::NotReducedModuloQ, 12);
+    seal(FIVE, &bad, phi, 10, Refusal::NotReducedModuloQ, 12);
+    seal(FIVE, h, &bad, 10, Refusal::PhiNotInItsSet, 10);
+    seal(FIVE, h, phi, 10, Refusal::ShortMessageTooLong, 26);
+
+    let open = |p, f: &[i32], f2: &[i32], e: &[i32], room: usize, refusal: Refusal, number| {
+        let mut message = vec![77; room];
+        let given = etru::open_short(p, f, f2, e, &mut message);
+        is_refused(given, refusal, number);
+        assert_eq!(message, vec![77; room]);
+    };
+    let (f, f2) = (&FIVE_ONE, &FIVE_ONE);
+    open(two, &bad, &bad, &bad, 2, Refusal::BoundNotBelowNorm, 6);
+    open(FIVE, &bad, &bad, &bad, 2, Refusal::WrongLength, 7);
+    open(FIVE, &bad[1..], &bad, &bad, 1, Refusal::WrongLength, 7);
+    open(FIVE, &bad, &bad[1..], &bad, 1, Refusal::WrongLength, 7);
+    open(FIVE, &bad, &bad, &bad[1..], 1, Refusal::WrongLength, 7);
+    open(FIVE, &bad, &bad, &bad, 1, Refusal::FNotInItsSet, 8);
+    open(FIVE, f, &bad, &bad, 1, Refusal::NotReducedModulo2, 11);
+    open(FIVE, f, f2, &bad, 1, Refusal::NotReducedModuloQ, 12);
+    open(FIVE, f, f2, &[0; 10], 2, Refusal::WrongLength, 7);
+    open(FIVE, f, f2, &[0; 10], 1, Refusal::NotAShortMessage, 27);
 }
 
 /// "One value modulo q: 2, 21, 22", and "Key check: 8, 11, 12, 9, 13, 14".

@@ -6,7 +6,9 @@ use std::collections::BTreeSet;
 use etru::{Kind, Parameters, PlacedUnit};
 
 use crate::calls;
-use crate::definitions::{bundle_bytes, file_bytes, file_numbers, message_bytes};
+use crate::definitions::{
+    self, bundle_bytes, file_bytes, file_numbers, message_bytes, padded, short_message_bytes,
+};
 use crate::drawing::Rng;
 use crate::keys::Key;
 
@@ -23,6 +25,9 @@ struct Arguments {
     m: Vec<i32>,
     message: Vec<u8>,
     e: Vec<i32>,
+    short: Vec<u8>,
+    /// what opens to the short message: its m, as if φ were zero
+    short_e: Vec<i32>,
     /// the entries of a bundle
     stops: Vec<u16>,
     arrays: Vec<Vec<i32>>,
@@ -35,6 +40,8 @@ impl Arguments {
     fn draw(rng: &mut Rng, key: &Key) -> Arguments {
         let (p, n) = (key.p, key.p.n);
         let phi = rng.whole_triples(n, p.s);
+        let short = rng.short_message(n);
+        let short_e = definitions::pack(n, &padded(n, &short), 2 * n as usize);
         Arguments {
             p,
             f: key.f.clone(),
@@ -47,6 +54,8 @@ impl Arguments {
             m: rng.reduced_2(n),
             message: rng.message(n),
             e: rng.reduced_q(p),
+            short,
+            short_e: short_e.expect("it is a message"),
             stops: rng.stops(3),
             arrays: (0..3).map(|_| rng.reduced_q(p)).collect(),
             room: 2 * n as usize,
@@ -88,6 +97,7 @@ impl Arguments {
             &mut self.phi,
             &mut self.m,
             &mut self.e,
+            &mut self.short_e,
         ];
         for array in arrays {
             if rng.once_in(6) {
@@ -107,6 +117,11 @@ impl Arguments {
         }
         if rng.once_in(4) {
             spoil_message(rng, &mut self.message);
+        }
+        if rng.once_in(4) {
+            // too long, often by one byte
+            let surplus = rng.one_of(&[1, 1, 2, 300]);
+            self.short = rng.bytes(short_message_bytes(p.n) + surplus);
         }
         for room in [&mut self.room, &mut self.message_room] {
             if rng.once_in(12) {
@@ -252,6 +267,22 @@ fn unpack() {
     });
 }
 
+#[test]
+fn seal_short() {
+    run(64, (0..=7).chain([10, 12, 26]), |rng, a| {
+        calls::seal_short(rng, a.p, &a.h, &a.phi, &a.short, a.room)
+    });
+}
+
+#[test]
+fn open_short() {
+    run(65, (0..=8).chain([11, 12, 27]), |rng, a| {
+        let room = about(rng, short_message_bytes(a.p.n.min(Parameters::MAX_N)));
+        let e = rng.one_of(&[&a.e, &a.short_e]);
+        calls::open_short(rng, a.p, &a.f, &a.f2, e, room)
+    });
+}
+
 /// A length, or another one now and then.
 fn about(rng: &mut Rng, length: usize) -> usize {
     match rng.index(8) {
@@ -292,6 +323,13 @@ fn write_sealed() {
     });
 }
 
+#[test]
+fn write_short() {
+    run(66, (0..=7).chain([12]), |rng, a| {
+        write(rng, Kind::Short, a.p, &a.e)
+    });
+}
+
 /// The bytes of a file with these parts, right or wrong.
 pub fn file_of(kind: u8, p: Parameters, numbers: &[i32]) -> Vec<u8> {
     let mut file = vec![b'E', b'I', b'Z', 0, 1, kind];
@@ -310,7 +348,7 @@ fn stored(numbers: &[i32]) -> impl Iterator<Item = u8> + '_ {
 fn damage(rng: &mut Rng, file: &mut Vec<u8>) {
     if rng.once_in(6) {
         let place = rng.index(6);
-        file[place] = rng.one_of(&[0, 1, 2, 3, 4, b'E', 255]);
+        file[place] = rng.one_of(&[0, 1, 2, 3, 4, 5, b'E', 255]);
     }
     match rng.index(16) {
         0 => file.truncate(rng.index(file.len())),
@@ -351,6 +389,13 @@ fn read_private() {
 fn read_sealed() {
     run(32, (0..=7).chain([12]).chain(16..=19), |rng, a| {
         read(rng, Kind::Sealed, a.p, &a.e)
+    });
+}
+
+#[test]
+fn read_short() {
+    run(67, (0..=7).chain([12]).chain(16..=19), |rng, a| {
+        read(rng, Kind::Short, a.p, &a.e)
     });
 }
 

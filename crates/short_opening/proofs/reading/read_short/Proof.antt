@@ -10,14 +10,14 @@ use Rattle.packing.specs.Messages.{bitOf}
 use Rattle.opened_arrays.proofs.Answers.{gives-as, gives-refusal}
 use Rattle.short_messages.specs.declared.LastOne.{LastOne}
 use Rattle.short_messages.specs.declared.LastOne.the-variants.{At, Nowhere}
-use Rattle.short_messages.specs.ShortMessages.{lastOne, endsNone, notShort, bytesBefore, shortOf}
+use Rattle.short_messages.specs.ShortMessages.{lastOne, endsNoShort, notShort, bytesBefore, shortOf}
 use Rattle.short_messages.proofs.LastOnes.{last-known}
 use Rattle.short_opening.proofs.reading.read_short.Statement.{statement}
 use Rattle.short_opening.proofs.reading.read_short.Tie as tie
 
 -- what is read where the last 1 is this
 abbrev read-at : List ℕ → LastOne → Outcome (List ℕ)
-read-at bits o = outcome (27 if endsNone o ∷ []) (bytesBefore o bits)
+read-at bits o = outcome (27 if endsNoShort o ∷ []) (bytesBefore o bits)
 
 read-by : (n : ℕ) (bits : List ℕ) (o : LastOne) → lastOne (2 * n) (bitOf bits) ≡ o → read-at bits o ≡ outcome (27 if notShort n bits ∷ []) (shortOf n bits)
 unfolding notShort shortOf
