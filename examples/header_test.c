@@ -60,6 +60,10 @@ static uint32_t spread_places(const size_t *k) {
 static uint32_t seal_short(const size_t *k) {
     return etru_seal_short(n, 15, 0, 3, 1, h, k[0], triple, k[1], message, ETRU_SHORT_MESSAGE_BYTES(n), out, k[2]);
 }
+static uint32_t open_short(const size_t *k) {
+    size_t used;
+    return etru_open_short(n, 15, 0, 3, 1, one, k[0], one, k[1], out, k[2], opened, ETRU_SHORT_MESSAGE_BYTES(n), &used);
+}
 static uint32_t open_sealed(const size_t *k) {
     return etru_open(n, 15, 0, 3, 1, one, k[0], one, k[1], e, k[2], opened, k[3]);
 }
@@ -169,6 +173,7 @@ static void try_lengths(void) {
         {"etru_spread_places", spread_places, {3, array}},
         {"etru_open", open_sealed, {array, array, array, bytes}},
         {"etru_seal_short", seal_short, {array, array, array}},
+        {"etru_open_short", open_short, {array, array, array}},
         {"etru_pack", pack, {bytes, array}},
         {"etru_unpack", unpack, {array, bytes}},
         {"etru_write, public", write_public, {ETRU_PUBLIC_FILE_NUMBERS(n), ETRU_PUBLIC_FILE_BYTES(n)}},
@@ -308,12 +313,12 @@ static void try_triples(void) {
 
 // ---- Short messages
 
-static uint32_t open_short(const int32_t *sealed, size_t room, size_t *used) {
+static uint32_t open_short_of(const int32_t *sealed, size_t room, size_t *used) {
     const size_t array = ETRU_ARRAY_NUMBERS(n);
     return etru_open_short(n, 15, 0, 3, 1, one, array, one, array, sealed, array, opened, room, used);
 }
 
-// A short message of so many bytes 80, of which each but for the last could be taken for the end.
+// A short message of so many bytes 0x80, each of which could be taken for the one with the 1 behind it.
 static void try_short_message(size_t count) {
     const size_t array = ETRU_ARRAY_NUMBERS(n), longest = ETRU_SHORT_MESSAGE_BYTES(n);
     uint8_t code[MESSAGE];
@@ -323,7 +328,7 @@ static void try_short_message(size_t count) {
     memset(opened, 0x5A, sizeof opened);
     expect("a short message sealed",
            etru_seal_short(n, 15, 0, 3, 1, h, array, triple, array, code, count, out, array), ETRU_OK);
-    expect("a short message opened", open_short(out, longest, &used), ETRU_OK);
+    expect("a short message opened", open_short_of(out, longest, &used), ETRU_OK);
     for (size_t i = 0; i < sizeof opened; i++) {
         right = right && opened[i] == (i < count ? 0x80 : 0x5A);
     }
@@ -334,14 +339,19 @@ static void try_short_message(size_t count) {
 static void try_short(void) {
     const size_t array = ETRU_ARRAY_NUMBERS(n), longest = ETRU_SHORT_MESSAGE_BYTES(n);
     size_t used = 77;
+    uint32_t right = 1;
     try_short_message(0);
     try_short_message(longest);
+    memset(opened, 0x5A, sizeof opened);
     expect("ETRU_SHORT_MESSAGE_BYTES + 1",
            etru_seal_short(n, 15, 0, 3, 1, h, array, triple, array, message, longest + 1, out, array),
            ETRU_SHORT_MESSAGE_TOO_LONG);
-    expect("room for a byte more", open_short(out, longest + 1, &used), ETRU_WRONG_LENGTH);
-    expect("no 1 bit", open_short(e, longest, &used), ETRU_NOT_A_SHORT_MESSAGE);
-    expect("nothing is written", used == 77, 1);
+    expect("room for a byte more", open_short_of(out, longest + 1, &used), ETRU_WRONG_LENGTH);
+    expect("no 1 bit", open_short_of(e, longest, &used), ETRU_NOT_A_SHORT_MESSAGE);
+    for (size_t i = 0; i < sizeof opened; i++) {
+        right = right && opened[i] == 0x5A;
+    }
+    expect("nothing is written", right && used == 77, 1);
 }
 
 // ---- Limits

@@ -44,7 +44,7 @@ static const char *const conditions[] = {
     [ETRU_PLACE_OR_UNIT_OUT_OF_RANGE] = "a place is N or more, or a unit number is above 5",
     [ETRU_PLACE_OCCURS_TWICE] = "a place occurs twice",
     [ETRU_STOP_OCCURS_TWICE] = "a stop number occurs twice",
-    [ETRU_SHORT_MESSAGE_TOO_LONG] = "8n + 1 exceeds 2N, for a short message of n bytes",
+    [ETRU_SHORT_MESSAGE_TOO_LONG] = "8 * the bytes of a short message + 1 exceeds 2N",
     [ETRU_NOT_A_SHORT_MESSAGE] = "no 1 bit, or the last one at a position, counted from 0, that is not a multiple of 8",
 };
 
@@ -228,7 +228,8 @@ int main(int argc, char **argv) {
         return failed("the line does not tell the message");
     }
 
-    // Short messages, with the ephemeral that the places were spread to: the longest, which at N = 3 is empty, and none.
+    // Short messages, with the ephemeral that the places were spread to: the longest, which at N = 3 is empty, and the
+    // empty one.
     size_t longest = ETRU_SHORT_MESSAGE_BYTES(n), lengths[] = {longest, 0};
     for (size_t i = 0; i < 2; i++) {
         number = etru_seal_short(n, c, d, s, t, h, array, spread, array, message, lengths[i], e, array);

@@ -39,7 +39,7 @@
 //   Reduced modulo 2: each coefficient is (0,0), (1,0), (0,1) or (−1,−1).
 //   Reduced modulo q: each coefficient is its own remainder, by the rule at etru_reduce_q.
 //   A message is 2N bits, highest bit of a byte first; bits 2i and 2i + 1 stand for coefficient i. The spare low bits
-//   of the last byte are zero. A short message is fewer bytes, or none; see there.
+//   of the last byte are zero. A short message is fewer bytes, or none: see below.
 #ifndef ETRU_H
 #define ETRU_H
 
@@ -89,7 +89,7 @@ enum etru_refusal {
     // Bundle
     ETRU_STOP_OCCURS_TWICE = 25,              // a stop number occurs twice
     // Short message
-    ETRU_SHORT_MESSAGE_TOO_LONG = 26,         // 8n + 1 exceeds 2N, for a short message of n bytes
+    ETRU_SHORT_MESSAGE_TOO_LONG = 26,         // 8 × the bytes of a short message + 1 exceeds 2N
     ETRU_NOT_A_SHORT_MESSAGE = 27             // no 1 bit, or the last one at a position, counted from 0, that is not a
                                               // multiple of 8
 };
@@ -255,11 +255,12 @@ uint32_t etru_spread_places(uint32_t n, int32_t c, int32_t d, uint32_t s, uint32
 
 // ---- Short messages
 //
-// A short message is from 0 to ETRU_SHORT_MESSAGE_BYTES(n) whole bytes. It is sealed as the message of 2N bits that are
-// its own bits, one 1 bit, and zeros, and it opens to exactly its own bytes and length. Two different short messages,
-// the empty one among them, never seal alike under one key. etru_open opens it too, to those 2N bits; and what etru_seal
-// sealed opens as a short message where its bits are one, and is refused by 27 otherwise.
-// Its file is of kind ETRU_SHORT_FILE, read and written as a sealed file is. The opening program does not take it.
+// A short message is from 0 to ETRU_SHORT_MESSAGE_BYTES(n) whole bytes; the empty one tells the driver that the round
+// has no stop left. It is sealed as the message of 2N bits that are its own bits, one 1 bit, and zeros. With a key that
+// etru_check_key accepts it opens to exactly its own bytes and length, and two different short messages, the empty one
+// among them, never seal alike. etru_open opens it too, to those 2N bits; and what etru_seal sealed opens as a short
+// message where its 2N bits are those of one, and is refused by 27 otherwise.
+// Its file is of kind ETRU_SHORT_FILE, read and written as a sealed file is; the opening program refuses it by 19.
 //
 // Whoever has the ephemeral as places spreads it first:
 //

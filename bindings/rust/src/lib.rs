@@ -9,8 +9,8 @@
 //!
 //! A polynomial of N coefficients is an array of 2N numbers a0, b0, a1, b1 and so on; coefficient i
 //! is ai + biω. A message is N/4 bytes, rounded up, highest bit first, and the spare low bits of
-//! its last byte are zero. A short message is n whole bytes with 8n + 1 at most 2N, also none
-//! ([`seal_short`], [`open_short`]). An ephemeral φ is an array too, or a list of its units with
+//! its last byte are zero. A short message is whole bytes, none too, with 8 × their
+//! number + 1 at most 2N ([`seal_short`], [`open_short`]). An ephemeral φ is an array too, or a list of its units with
 //! their places ([`PlacedUnit`]). The sealed arrays of a round are one file, a [`Bundle`].
 //!
 //! The s nonzero coefficients of g, and those of φ, are units in whole triples: equally many of 1,

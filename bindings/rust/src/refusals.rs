@@ -68,7 +68,7 @@ refusals! {
     PlaceOrUnitOutOfRange = 23, "a place is N or more, or a unit number is above 5";
     PlaceOccursTwice = 24, "a place occurs twice";
     StopOccursTwice = 25, "a stop number occurs twice";
-    ShortMessageTooLong = 26, "8n + 1 exceeds 2N, for a short message of n bytes";
+    ShortMessageTooLong = 26, "8 × the bytes of a short message + 1 exceeds 2N";
     NotAShortMessage = 27, "no 1 bit, or the last one at a position, counted from 0, that is not \
         a multiple of 8";
 }

@@ -41,7 +41,9 @@ Other-g-not-written =
 
 -- Document 02's wish 4, "kind 5, laid out like kind 3": what is read and written is the same, but for byte 5, the kind, and so is what is refused.
 abbrev pub Short-read-like-sealed : Type 0
-Short-read-like-sealed = (b0 b1 b2 b3 b4 : ℕ) (rest : List ℕ) (room : ℕ) → reading 5 (b0 ∷ b1 ∷ b2 ∷ b3 ∷ b4 ∷ 5 ∷ rest) room ≡ reading 3 (b0 ∷ b1 ∷ b2 ∷ b3 ∷ b4 ∷ 3 ∷ rest) room
+Short-read-like-sealed =
+    (b0 b1 b2 b3 b4 : ℕ) (rest : List ℕ) (room : ℕ) → let short = b0 ∷ b1 ∷ b2 ∷ b3 ∷ b4 ∷ 5 ∷ rest in let sealed = b0 ∷ b1 ∷ b2 ∷ b3 ∷ b4 ∷ 3 ∷ rest in
+    (readingHead 5 short ≡ readingHead 3 sealed) × (reading 5 short room ≡ reading 3 sealed room)
 
 abbrev pub Short-written-like-sealed : Type 0
 Short-written-like-sealed =

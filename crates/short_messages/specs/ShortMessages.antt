@@ -16,9 +16,9 @@ tooLong N n = ltb (2 * N) (8 * n + 1)
 abbrev pub longestShort : ℕ → ℕ
 longestShort N = (2 * N - 1) / 8
 
--- "after its bits comes one 1 bit, then zeros up to 2N": from bit n on, and all of them.
-unfoldable pub oneThenZeros : ℕ → ℕ → ℕ
-oneThenZeros n k = cond (eqb k n) 1 0
+-- "after its bits comes one 1 bit, then zeros up to 2N": bit k of what comes from bit `start` on, and of all.
+unfoldable pub oneThenZeros : (start k : ℕ) → ℕ
+oneThenZeros start k = cond (eqb k start) 1 0
 
 unfoldable pub paddedBit : List ℕ → ℕ → ℕ
 paddedBit short k = cond (ltb k (8 * length short)) (bitOf short k) (oneThenZeros (8 * length short) k)

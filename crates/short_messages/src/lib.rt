@@ -14,7 +14,7 @@ pub enum LastOne {
     Nowhere,
 }
 
-// Whether 8 × length + 1 exceeds 2N, which is so where a message of N has no more bytes.
+// Whether 8 × length + 1 exceeds 2N, which is so where there are as many bytes as a message of 2N bits has, or more.
 pub fn too_long(n: u32, length: usize) -> bool
     ensures { λ r. ⌜ r ≡ tooLong n length ⌝ }
 {

@@ -47,7 +47,7 @@ fn open_checked(p: Parameters, f: &[i32], f2: &[i32], e: &[i32], message: &mut [
     open_bits(p, f, f2, e, &mut bits[..k], message)
 }
 
-// Opens the sealed array e with the private key f and F2. The short message goes to the front of message, which is lent with the longest one's bytes.
+// Opens the sealed array e with the private key f and F2. The short message goes to the front of message, which has as many bytes as the longest one.
 pub fn open_short(p: Parameters, f: &[i32], f2: &[i32], e: &[i32], message: &mut [u8]) -> Opened
     ensures { λ r. ⌜ GivesMessage (shortOpening (setOf p) (now (f .entry)) (now (f2 .entry)) (now (e .entry)) (length (now (message .entry)))) r (now (message .entry)) (now (message .exit)) ⌝ }
 {

@@ -4,11 +4,14 @@ use mathlib.Core.Bool.{Bool, true, not, _&&_}
 use mathlib.Core.List.{List, [], _∷_, _++_, append-assoc}
 use Prim.Native.Nat.{ℕ, _+_, _*_, _≤_}
 use native.Mathlib.Omega.{arith}
-use borrow.Author.Tests.{le-ltb, eq-eqb}
+use borrow.Author.Tests.{lt-ltb, le-ltb, eq-eqb, ne-eqb}
+use lib.Dec.{T}
 use lib.IntN.{ℤ}
 use lib.ListN.{length, take}
+use lib.Seq.{take-all}
+use Rattle.integers.proofs.Tests.{equal-2}
 use Rattle.refusals.specs.Outcomes.{Check, Outcome, done, refused, unless, outcome, _if_}
-use Rattle.refusals.proofs.Checks.{refused-by, same-done, done-passed, done-value, done-all, passed-all, done-with, done-parts, carried, carried-refused, outcome-carried, refused-first, same-first}
+use Rattle.refusals.proofs.Checks.{refused-by, none-left, holds-passed, fails-refused, done-holds, same-done, done-passed, done-value, done-all, passed-all, done-with, done-parts, carried, carried-refused, outcome-carried, refused-first, same-first}
 use Rattle.parameters.specs.Sets.{ParameterSet, parameterChecks}
 use Rattle.parameters.proofs.AcceptedParameters.{accepted-parameters}
 use Rattle.polynomials.specs.Polynomials.{coefficient, array, unitsOnly, wholeTriples, reducedQ, reduced2}
@@ -19,11 +22,15 @@ use Rattle.etru.specs.Scheme.{sealed, opened}
 use Rattle.etru.specs.Calls.{sealingChecks, sealing, openingChecks, opening}
 use Rattle.etru.specs.Demand3.{AcceptedKey, Ephemeral, Message}
 use Rattle.etru.proofs.Demand3.{demand-3}
+use Rattle.etru.proofs.Passed.{opening-passed}
+use Rattle.heads.specs.Kinds.{arraysOf, knownKind}
+use Rattle.files.specs.Files.{fileNumbers, fileBytes}
+use Rattle.files.specs.Calls.{setChecks, rightLengths, contentChecks, writingChecks, writing}
 use Rattle.short_messages.specs.ShortMessages.{longestShort, padded, notShort, shortOf}
 use Rattle.short_messages.specs.Promises.{Short}
 use Rattle.short_messages.proofs.ReadingBack.{padded-whole, read-from-just-one}
 use Rattle.short_scheme.specs.Calls.{shortSealingChecks, shortSealing, formed, shortOpeningChecks, shortOpening}
-use Rattle.short_scheme.specs.Promises.{Empty-valid, Short-seals-as-padded, Too-long-refused, Readings-agree, Short-sealing-opens-in-full, Full-sealing-opens-short}
+use Rattle.short_scheme.specs.Promises.{Empty-valid, Short-seals-as-padded, Too-long-refused, Short-sealing-written, Other-output-refused, Readings-agree, Short-sealing-opens-in-full, Full-sealing-opens-short}
 
 pub empty-valid : Empty-valid
 empty-valid p c = record { bytes = λ i. omega arith; fits = omega (arith, accepted-parameters p c .N-large) }
@@ -64,9 +71,16 @@ pub too-long-refused : Too-long-refused
 unfolding shortSealing shortSealingChecks
 too-long-refused p h φ short room long =
     same-first (parameterChecks p) _ _ _ _ λ _.
-    same-first (take 3 (shortSealingChecks p h φ (length short) room)) _ _ _ _ λ _. refused-by 26 [] _ long ∙ sym (refused-by 26 [] [] refl)
+    same-first (take 3 (shortSealingChecks p h φ 0 room)) _ _ _ _ λ _.
+    refused-by 26 [] _ (lt-ltb (2 * p .N) (8 * length short + 1) long) ∙ sym (refused-by 26 [] [] refl)
 
 -- ---- opening
+
+pub other-output-refused : Other-output-refused
+unfolding shortOpening shortOpeningChecks
+other-output-refused p f F2 e room other =
+    same-first (parameterChecks p) _ _ _ _ λ _.
+    fails-refused 7 _ _ _ (ap (λ (t : Bool). t && (full (p .N) (length f) && (full (p .N) (length F2) && full (p .N) (length e)))) (ne-eqb room (longestShort (p .N)) other)) ∙ sym (refused-by 7 [] [] refl)
 
 module _ (p : ParameterSet) (f F2 e : List ℤ) where
   -- what both openings ask, where t says that the output has its length
@@ -138,6 +152,20 @@ sealed-opens {p} {f} {F2} {Fq} {g} {h} {φ} e {message} key ephemeral m seals =
 pub short-sealing-opens-in-full : Short-sealing-opens-in-full
 short-sealing-opens-in-full p f F2 Fq g h φ e short key ephemeral s seals =
     sealed-opens e key ephemeral (padded-message p short (s .fits)) (sym (short-seals-as-padded p h φ short (2 * p .N) (s .fits)) ∙ seals)
+
+pub short-sealing-written : Short-sealing-written
+unfolding opening openingChecks writing writingChecks contentChecks setChecks fileNumbers arraysOf
+short-sealing-written p f F2 Fq g h φ e short key ephemeral s seals =
+    let passes = done-parts _ _ _ (short-sealing-opens-in-full p f F2 Fq g h φ e short key ephemeral s seals) .0 in
+    let e-long = opening-passed p f F2 e (messageBytes (p .N)) passes .e-ready .long in
+    let (accepted, c7) = done-all (parameterChecks p) _ _ _ passes in
+    let c12 = done-all (take 3 (openingChecks p f F2 e (messageBytes (p .N)))) _ _ _ c7 in
+    let reduced = done-holds 12 (reducedQ (p .N) (p .q) (coefficient e)) _ _ _ (c12 .1) .0 in
+    holds-passed 19 (knownKind 5) _ _ tt
+    ∙ passed-all (parameterChecks p) _ _ accepted
+    ∙ holds-passed 7 (rightLengths 5 (p .N) (length e) (fileBytes 5 (p .N))) _ _ (equal-2 {a = fileBytes 5 (p .N)} {b = length e} {b′ = fileNumbers 5 (p .N)} refl (omega arith))
+    ∙ holds-passed 12 (reducedQ (p .N) (p .q) (coefficient (take (2 * p .N) e))) _ _ (subst (λ (x : List ℤ). T (reducedQ (p .N) (p .q) (coefficient x))) (sym (take-all (2 * p .N) e (omega arith))) reduced)
+    ∙ none-left _
 
 pub full-sealing-opens-short : Full-sealing-opens-short
 full-sealing-opens-short p f F2 Fq g h φ e message key ephemeral m seals =

@@ -54,7 +54,7 @@ fn seal_bits(
     sealing::seal(p, h, phi, bits, e)
 }
 
-// With room for the bits of every N.
+// A message that is too long meets the first refusal due, 26 at the latest. The bits of another are sealed, with room for those of every N.
 fn seal_checked(p: Parameters, h: &[i32], phi: &[i32], message: &[u8], e: &mut [i32]) -> Answer
     requires { ⌜ Passes (parameterChecks (setOf p)) ⌝ }
     ensures { λ r. ⌜ Gives (shortSealing (setOf p) (now (h .entry)) (now (phi .entry)) (now (message .entry)) (length (now (e .entry))))
