@@ -434,7 +434,6 @@ def other_files(files):
         ("a bundle first", bundle + sealed, 19),
         ("a bundle second", private + bundle, 19),
         ("the short file first", short + sealed, 19),
-        ("the short file second", private + short, 19),
         ("the short file after both", private + sealed + short, 7),
         ("the private file twice", private + private, 19),
         ("the private file twice and the sealed file", private + private + sealed, 19),
@@ -445,9 +444,14 @@ def other_files(files):
         ("a byte before both", b"\0" + private + sealed, 17),
     ]:
         yield (what, data, refused(number))
-    # a short sealing in a file of kind 3 is opened as a full one
+
+
+def short_inputs(files):
+    """A short sealing as the second file: of its own kind it is refused, and of kind 3 opened as a full one."""
     full = reference.whole_bytes(reference.short_bits(files.p.n, files.short_message))
-    yield ("a short sealing as kind 3", Input(files.private, files.short.but(kind=SEALED_FILE)).bytes(), opened(full))
+    for kind, due in [(SHORT_FILE, refused(19)), (SEALED_FILE, opened(full))]:
+        sealed = files.short.but(kind=kind)
+        yield (f"a short sealing as kind {kind}, N = {files.p.n}", Input(files.private, sealed).bytes(), due)
 
 
 def long_inputs(rng, files):
@@ -558,6 +562,7 @@ def program(results, library, rng, all_files):
     groups = [documented_inputs(), valid_inputs(rng), large_inputs(rng), own_head_inputs(rng)]
     groups += [other_files(small), long_inputs(rng, small), random_inputs(rng, all_files)]
     groups += [six_unit_inputs(files) for files in all_files if files.p.s == 6]
+    groups += [short_inputs(files) for files in all_files]
     groups += [cut_inputs(files) for files in all_files]
     groups += [flipped_inputs(rng, files) for files in all_files[:2]]
     groups += [spoiled_inputs(rng, files) for files in all_files[:2]]

@@ -333,8 +333,8 @@ def call_open(p, f, f2, e, room):
     return (0, unpack(all_reduced_2(convolve(coefficients(f2), a))))
 
 
-# Short messages, document 02's wish 4: "n whole bytes with 8n + 1 at most 2N; after its bits comes one 1 bit, then zeros
-# up to 2N". The document's n is the count of the bytes.
+# Short messages, document 02's wish 4: "n whole bytes with 8n + 1 at most 2N; after its bits comes one 1 bit, then
+# zeros up to 2N". The document's n is the count of the bytes.
 
 
 def short_bits(n, message):
