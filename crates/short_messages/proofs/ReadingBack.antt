@@ -1,12 +1,12 @@
 -- Short messages and their bits: each reads back to itself, and each that is read comes from just one.
 use mathlib.Core.Path.{_≡_, refl, sym, _∙_, ap, subst}
-use mathlib.Core.Bool.{Bool, true, false, not}
+use mathlib.Core.Bool.{false, not}
 use mathlib.Core.List.{List}
 use Prim.Native.Nat.{ℕ, _+_, _-_, _*_, _/_, _%_, _^_, _≤_, _<_}
 use native.Mathlib.Omega.{arith}
 use native.Mathlib.Decide.{decLt, ℕ-discrete}
-use borrow.Author.Tests.{eq-eqb}
-use lib.Dec.{T, eqb, eqb→eq}
+use borrow.Author.Tests.{eq-eqb, eqb-true, not-false}
+use lib.Dec.{T, eqb}
 use lib.ListN.{length, getD, take, List·getD-eq-default}
 use lib.Seq.{ext-getD, length-take-le, getD-take}
 use Rattle.packing.specs.Messages.{messageBytes, bitOf, byte, spareBitSet}
@@ -119,11 +119,7 @@ unfolding notShort
 ends N message e = go (lastOne (2 * N) (bitOf message)) refl e
   where
     go : (o : LastOne) → lastOne (2 * N) (bitOf message) ≡ o → endsNoShort o ≡ false → Ends N message
-    go (At k) h t = record { place = k; last = h; byte-first = eqb→eq (k % 8) 0 (subst T (sym (unset (eqb (k % 8) 0) t)) tt) }
-      where
-        unset : (b : Bool) → not b ≡ false → b ≡ true
-        unset true p = refl
-        unset false p = sym p
+    go (At k) h t = record { place = k; last = h; byte-first = eqb-true (k % 8) 0 (not-false (eqb (k % 8) 0) t) }
     go Nowhere h t = absurd (subst T t tt)
 
 module _ (N : ℕ) (message : List ℕ) (whole : Whole N message) (end : Ends N message) where
@@ -164,14 +160,9 @@ module _ (N : ℕ) (message : List ℕ) (whole : Whole N message) (end : Ends N 
       go : Dec (k < 8 * length short) → Dec (k ≡ 8 * length short) → Dec (k < 2 * N) → paddedBit short k ≡ bitOf message k
       go (yes p) d e = own-bit short k p ∙ short-bit k p
       go (no p) (yes d) e = one-bit short k d ∙ sym (ap (bitOf message) (d ∙ ends-at) ∙ last .one)
-      go (no p) (no d) (yes e) = zero-bit short k (omega arith) ∙ sym (zero (bitOf message k) (bitOf-lt message k) (last .none-after k (omega (arith, ends-at)) e))
-        where
-          zero : (b : ℕ) → b < 2 → (b ≡ 1 → ⊥) → b ≡ 0
-          zero b h n = go′ (ℕ-discrete b 1)
-            where
-              go′ : Dec (b ≡ 1) → b ≡ 0
-              go′ (yes q) = absurd (n q)
-              go′ (no q) = omega arith
+      go (no p) (no d) (yes e) =
+          let other = last .none-after k (omega (arith, ends-at)) e in
+          omega (arith, zero-bit short k (omega arith), bitOf-lt message k)
       go (no p) (no d) (no e) = zero-bit short k (omega arith) ∙ sym (spare-zero N message (whole .no-spare) k l (omega arith))
 
   pads : padded N short ≡ message

@@ -7,12 +7,14 @@ use lib.ListN.{length, take, replicate}
 use lib.Seq.{length-take-le}
 use Rattle.packing.specs.Messages.{messageBytes}
 
-module _ (N k : ℕ) (room : List ℕ) (small : N ≤ 1024) (is : k ≡ messageBytes N) (zeros : room ≡ replicate 256 0) where
-  pub enough-room : k ≤ length room
-  enough-room = omega (arith, ap length zeros)
+-- k bytes of it are lent, for a message of N
+pub record Lent (N k : ℕ) (room : List ℕ) : Type 0 where
+  pub enough : k ≤ length room
+  pub long : length (take k room) ≡ k
+  pub for-message : length (take k room) ≡ messageBytes N
 
-  pub part-long : length (take k room) ≡ k
-  part-long = length-take-le k room enough-room
-
-  pub message-long : length (take k room) ≡ messageBytes N
-  message-long = part-long ∙ is
+pub lent-room : {N k : ℕ} {room : List ℕ} → N ≤ 1024 → k ≡ messageBytes N → room ≡ replicate 256 0 → Lent N k room
+lent-room {N} {k} {room} small is zeros =
+    let enough : k ≤ length room = omega (arith, ap length zeros) in
+    let long = length-take-le k room enough in
+    record { enough = enough; long = long; for-message = long ∙ is }

@@ -16,7 +16,7 @@ tooLong N n = ltb (2 * N) (8 * n + 1)
 abbrev pub longestShort : ℕ → ℕ
 longestShort N = (2 * N - 1) / 8
 
--- "after its bits comes one 1 bit, then zeros up to 2N": bit k of what comes from bit `start` on, and of all.
+-- "after its bits comes one 1 bit, then zeros up to 2N": first what comes from bit `start` on, then all of it, each by its bit k.
 unfoldable pub oneThenZeros : (start k : ℕ) → ℕ
 oneThenZeros start k = cond (eqb k start) 1 0
 

@@ -1,8 +1,8 @@
 -- `seal_checked` meets its contract.
 use mathlib.Core.Path.{_≡_, refl, sym, _∙_, ap, subst}
-use mathlib.Core.Bool.{true, false}
+use mathlib.Core.Bool.{true}
 use mathlib.Core.List.{List, [], _++_}
-use Prim.Native.Nat.{ℕ, _+_, _*_, _≤_}
+use Prim.Native.Nat.{ℕ, _+_, _*_}
 use borrow.Author.Needs.{needs}
 use borrow.Author.Tests.{ltb-false}
 use lib.Dec.{T}
@@ -18,7 +18,7 @@ use Rattle.polynomials.specs.Polynomials.{coefficient, array}
 use Rattle.packing.specs.Messages.{packed}
 use Rattle.etru.specs.Scheme.{sealed}
 use Rattle.short_messages.specs.ShortMessages.{tooLong, padded}
-use Rattle.short_messages.proofs.Rooms.{enough-room, part-long, message-long}
+use Rattle.short_messages.proofs.Rooms.{Lent, lent-room}
 use Rattle.short_scheme.specs.Calls.{shortSealingChecks, shortSealing}
 use Rattle.short_sealing.proofs.seal_checked.Statement.{statement}
 use Rattle.short_sealing.proofs.seal_checked.Tie as tie
@@ -33,10 +33,7 @@ module _ (p : ParameterSet) (h φ : List ℤ) (short : List ℕ) (room : ℕ) (l
   never-done e =
       let c = done-all (parameterChecks p) (shortSealingChecks p h φ (length short) room) _ _ e in
       let c26 = done-all (take 3 (shortSealingChecks p h φ (length short) room)) _ _ _ (c .1) in
-      true-not-false (sym long ∙ done-passed 26 (tooLong (p .N) (length short)) [] _ _ (c26 .1) .0)
-    where
-      true-not-false : true ≡ false → ⊥
-      true-not-false q = subst T q tt
+      subst T (sym long ∙ done-passed 26 (tooLong (p .N) (length short)) [] _ _ (c26 .1) .0) tt
 
   refused-as : (r : Answer) (old : List ℤ) → answered r ≡ outcome checks (tt {0}) → Gives (shortSealing p h φ short room) (number (answered r)) old old
   unfolding shortSealing
@@ -49,21 +46,12 @@ module _ (p : ParameterSet) (h φ : List ℤ) (short : List ℕ) (room : ℕ) (l
       go (done _) e = absurd (never-done e)
       go (refused n) e = subst (λ (k : ℕ). Gives (outcome checks value-of) k old old) (sym (ap number (a ∙ e))) (gives-refused checks value-of old n e)
 
--- the room that is lent
 abbrev start : tie.After-message-room → tie.Start
 start c = c .before .before .before .before .before
 
-abbrev N : tie.After-message-room → ℕ
-N c = start c .args .p .n
-
-abbrev k : tie.After-message-room → ℕ
-k c = c .before .message-bytes .result
-
-abbrev room : tie.After-message-room → List ℕ
-room c = c .message-room .result
-
-small : (c : tie.After-message-room) → N c ≤ 1024
-small c = accepted-parameters (setOf (start c .args .p)) (start c .pre) .N-small
+-- the room that is lent
+lent : (c : tie.After-message-room) → Lent (start c .args .p .n) (c .before .message-bytes .result) (c .message-room .result)
+lent c = lent-room (accepted-parameters (setOf (start c .args .p)) (start c .pre) .N-small) (c .before .message-bytes .ensures) (c .message-room .ensures)
 
 pub seal-checked-spec : {M : Type 1} → statement M
 seal-checked-spec =
@@ -77,12 +65,12 @@ seal-checked-spec =
     refused-as (setOf (s .args .p)) (s .args .h .now) (s .args .phi .now) (s .args .message .now) (length (s .args .e .now)) (sym (t .before .too-long .ensures) ∙ t .if1 .taken) (c .short-sealing-refusal .result) (s .args .e .now) (c .short-sealing-refusal .ensures))
     (λ c κs. search needs)
     (λ c κs. search needs)
-    (λ c. enough-room (N c) (k c) (room c) (small c) (c .before .message-bytes .ensures) (c .message-room .ensures))
-    (λ c. let r = c .before in sym (part-long (N r) (k r) (room r) (small r) (r .before .message-bytes .ensures) (r .message-room .ensures)))
+    (λ c. lent c .enough)
+    (λ c. sym (lent (c .before) .long))
     (λ c κs.
     let r = c .before .before in
     let s = start r in
     let t = r .before .before .before in
-    (ltb-false (2 * N r) (8 * length (s .args .message .now) + 1) (sym (t .too-long .ensures) ∙ r .before .before .if1 .left), message-long (N r) (k r) (room r) (small r) (r .before .message-bytes .ensures) (r .message-room .ensures)))
+    (ltb-false (2 * s .args .p .n) (8 * length (s .args .message .now) + 1) (sym (t .too-long .ensures) ∙ r .before .before .if1 .left), lent r .for-message))
     (λ c. search needs)
     (λ c. c .before .before .seal-bits .ensures))
