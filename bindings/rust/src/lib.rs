@@ -20,9 +20,10 @@
 //! Slices of any length, with any contents, and any numbers may be given: what is wrong is refused.
 //! A call that returns an error leaves the outputs that it was lent as they came. No call panics,
 //! allocates or keeps anything, and any may be made from several threads at once. At every N
-//! [`open_files`] takes at most 72 KiB of stack, [`seal_places`] 36 KiB, [`open_short`] 29 KiB,
-//! [`open`], [`open_entry`], [`check_key`] and [`spread_places`] 28 KiB, [`seal`], [`seal_short`],
-//! [`read`], [`Bundle::new`], [`read_bundle`] and [`write_bundle`] 12 KiB and each other call 1 KiB.
+//! [`convolve`] takes at most 100 KiB of stack, [`open_files`] 72 KiB, [`seal_places`] 36 KiB,
+//! [`open_short`] 29 KiB, [`open`], [`open_entry`], [`check_key`] and [`spread_places`] 28 KiB,
+//! [`seal`], [`seal_short`], [`read`], [`Bundle::new`], [`read_bundle`] and [`write_bundle`] 12 KiB
+//! and each other call 1 KiB.
 //!
 //! # Example
 //!

@@ -1,4 +1,4 @@
-// Convolution modulo q: document 01's call, by direct sums.
+// Convolution modulo q: document 01's call, by halving (document 02, wish 5).
 // It knows nothing of keys and messages, and no other product.
 // It ends with `Done`, or with document 01's first refusal that applies, and then its output is as it came.
 ghost use lib.ListN.{length};
@@ -8,6 +8,8 @@ ghost use Rattle.parameters.specs.Sets.{setOf};
 ghost use Rattle.convolution.specs.Calls.{convolving};
 
 mod direct;
+mod halves;
+mod wrapping;
 
 use convolution_refusals::convolving_refusal;
 use parameters::Parameters;
@@ -22,7 +24,7 @@ pub fn convolve(p: Parameters, x: &[i32], y: &[i32], out: &mut [i32]) -> Answer
     let d = p.d;
     match convolving_refusal(p, x, y, out.len()) {
         Answer::Done => {
-            direct::convolve_q(x, y, n as usize, c, d, out);
+            wrapping::convolve_q(x, y, n as usize, c, d, out);
             Answer::Done
         }
         Answer::Refused(refusal) => Answer::Refused(refusal),

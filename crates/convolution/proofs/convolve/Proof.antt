@@ -13,10 +13,9 @@ use Rattle.eisenstein.specs.Reduction.{modQ}
 use Rattle.eisenstein.proofs.Pairs.{pair-read}
 use Rattle.parameters.specs.Sets.{ParameterSet, setOf, parameterChecks}
 use Rattle.polynomials.specs.Polynomials.{coefficient, array, convolution}
-use Rattle.arrays.proofs.Sizes.{modulus-handed}
 use Rattle.convolution_refusals.specs.Checks.{convolvingChecks}
 use Rattle.convolution.specs.Calls.{convolving}
-use Rattle.convolution.proofs.Operands.{convolving-passed}
+use Rattle.convolution.proofs.Operands.{convolving-passed, convolvable-handed}
 use Rattle.convolution.proofs.convolve.Statement.{statement}
 use Rattle.convolution.proofs.convolve.Tie as tie
 
@@ -45,8 +44,7 @@ convolve-spec =
     (λ c. search needs)
     (λ c κs.
     let s = start (c .before) in
-    let k = convolving-passed (P s) (s .args .x .now) (s .args .y .now) (s .args .out .now) (all-passed (c .before)) in
-    ((k .arrays, modulus-handed (search needs) (search needs) (k .modulus)), (k .x-small, k .y-small)))
+    convolvable-handed (P s .N) (s .args .x .now) (s .args .y .now) (s .args .out .now) (search needs) (search needs) (convolving-passed (P s) (s .args .x .now) (s .args .y .now) (s .args .out .now) (all-passed (c .before))))
     (λ c. search needs)
     (λ c. search needs)
     (λ c.

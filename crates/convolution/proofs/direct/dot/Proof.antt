@@ -17,7 +17,7 @@ terms x y from base j = coefficient x (from + j) *ω coefficient y (base - (from
 
 abbrev Inv-loop : tie.InvT-loop
 Inv-loop x y from to base a₀ b₀ j₀ a b j =
-    (from ≤ j) × (j ≤ to) × (value (toZ w64 a) (toZ w64 b) ≡ sum (j - from) (terms x y from base)) × (natAbs (toZ w64 a) ≤ (j - from) * 2 ^ 29) × (natAbs (toZ w64 b) ≤ (j - from) * 2 ^ 29)
+    (from ≤ j) × (j ≤ to) × (value (toZ w64 a) (toZ w64 b) ≡ sum (j - from) (terms x y from base)) × (natAbs (toZ w64 a) ≤ (j - from) * 2 ^ 49) × (natAbs (toZ w64 b) ≤ (j - from) * 2 ^ 49)
 
 abbrev μ-loop : tie.MeasureT-loop
 μ-loop x y from to base a₀ b₀ j₀ a b j = to - j
@@ -37,12 +37,12 @@ product-requires c κs = ((omega arith, omega arith, omega arith, omega arith), 
 add-a : tie.Need-add-a Inv-loop μ-loop
 add-a c =
     let l = c .before .before .before .before in
-    sum-fits w64 (l .loop .j - l .before .args .from) (2 ^ 29) (toZ w64 (l .loop .a)) (c .before .before .product .result .a) (l .loop .inv .3) (c .before .before .product .ensures .1) (omega (arith, l .loop .inv, l .before .pre .0, c .before .before .before .loop-test .taken))
+    sum-fits w64 (l .loop .j - l .before .args .from) (2 ^ 49) (toZ w64 (l .loop .a)) (c .before .before .product .result .a) (l .loop .inv .3) (c .before .before .product .ensures .1) (omega (arith, l .loop .inv, l .before .pre .0, c .before .before .before .loop-test .taken))
 
 add-b : tie.Need-add-b Inv-loop μ-loop
 add-b c =
     let l = c .before .before .before .before in
-    sum-fits w64 (l .loop .j - l .before .args .from) (2 ^ 29) (toZ w64 (l .loop .b)) (c .before .before .product .result .b) (l .loop .inv .4) (c .before .before .product .ensures .2) (omega (arith, l .loop .inv, l .before .pre .0, c .before .before .before .loop-test .taken))
+    sum-fits w64 (l .loop .j - l .before .args .from) (2 ^ 49) (toZ w64 (l .loop .b)) (c .before .before .product .result .b) (l .loop .inv .4) (c .before .before .product .ensures .2) (omega (arith, l .loop .inv, l .before .pre .0, c .before .before .before .loop-test .taken))
 
 add-j : tie.Need-add-j Inv-loop μ-loop
 add-j c = omega arith
@@ -57,16 +57,16 @@ loop-again c =
     let s = l .before in
     let r = c .before .before .product in
     let n : ℕ = l .loop .j - s .args .from in
-    let few : n * 2 ^ 29 + 2 ^ 29 < 2 ^ 63 = omega (arith, l .loop .inv, s .pre .0, c .before .before .before .loop-test .taken) in
+    let few : n * 2 ^ 49 + 2 ^ 49 < 2 ^ 63 = omega (arith, l .loop .inv, s .pre .0, c .before .before .before .loop-test .taken) in
     let e : l .loop .j + 1 - s .args .from ≡ suc n = omega (arith, l .loop .inv) in
     let at : s .args .from + n ≡ l .loop .j = omega (arith, l .loop .inv) in (
       omega (arith, l .loop .inv),
       omega (arith, c .before .before .before .loop-test .taken),
-      ap₂ value (sum-read w64 n (2 ^ 29) (toZ w64 (l .loop .a)) (r .result .a) (l .loop .inv .3) (r .ensures .1) few) (sum-read w64 n (2 ^ 29) (toZ w64 (l .loop .b)) (r .result .b) (l .loop .inv .4) (r .ensures .2) few)
+      ap₂ value (sum-read w64 n (2 ^ 49) (toZ w64 (l .loop .a)) (r .result .a) (l .loop .inv .3) (r .ensures .1) few) (sum-read w64 n (2 ^ 49) (toZ w64 (l .loop .b)) (r .result .b) (l .loop .inv .4) (r .ensures .2) few)
           ∙ ap₂ _+ω_ (l .loop .inv .2) (r .ensures .0 ∙ ap (λ (k : ℕ). coefficient (s .args .x .now) k *ω coefficient (s .args .y .now) (s .args .base - k)) (sym at))
           ∙ ap (λ (k : ℕ). sum k (terms (s .args .x .now) (s .args .y .now) (s .args .from) (s .args .base))) (sym e),
-      sum-size w64 n (2 ^ 29) (toZ w64 (l .loop .a)) (r .result .a) (l .loop .inv .3) (r .ensures .1) few (l .loop .j + 1 - s .args .from) e,
-      sum-size w64 n (2 ^ 29) (toZ w64 (l .loop .b)) (r .result .b) (l .loop .inv .4) (r .ensures .2) few (l .loop .j + 1 - s .args .from) e,
+      sum-size w64 n (2 ^ 49) (toZ w64 (l .loop .a)) (r .result .a) (l .loop .inv .3) (r .ensures .1) few (l .loop .j + 1 - s .args .from) e,
+      sum-size w64 n (2 ^ 49) (toZ w64 (l .loop .b)) (r .result .b) (l .loop .inv .4) (r .ensures .2) few (l .loop .j + 1 - s .args .from) e,
     )
 
 returns : tie.Need-returns Inv-loop μ-loop

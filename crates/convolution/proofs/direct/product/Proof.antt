@@ -11,20 +11,21 @@ use Rattle.integers.proofs.Machine.{Leaf, given, fits, exact, size-read}
 use Rattle.eisenstein.specs.Values.{ℤ[ω], value, _*ω_}
 use Rattle.eisenstein.proofs.Solver.{ringω, parts, _≐_, _⊠_}
 use Rattle.polynomials.specs.Polynomials.{coefficient}
+use Rattle.arrays.specs.Arrays.{AllWithin}
 use Rattle.convolution.proofs.direct.product.Statement.{statement}
 use Rattle.convolution.proofs.direct.product.Tie as tie
 
 -- a number that was read is within the arrays' bound
-read-bound : (l : List ℤ) (k : ℕ) {z : ℤ} → ((i : ℕ) → natAbs (getD l i (pos 0)) ≤ 5461) → z ≡ getD l k (pos 0) → natAbs z ≤ 5461
-read-bound l k h e = subst (λ (z : ℤ). natAbs z ≤ 5461) (sym e) (h k)
+read-bound : (l : List ℤ) (k : ℕ) {z : ℤ} → AllWithin (2 ^ 23) l → z ≡ getD l k (pos 0) → natAbs z ≤ 2 ^ 23
+read-bound l k h e = subst (λ (z : ℤ). natAbs z ≤ 2 ^ 23) (sym e) (h k)
 
 abbrev ρ : tie.After-at4 → List Leaf
 ρ c =
     let s = c .before .before .before .before in
-    given (c .before .before .before .at .result) 5461 (read-bound (s .args .x .now) (2 * s .args .j) (s .pre .1 .0) (c .before .before .before .at .ensures .0))
-    ∷ given (c .before .before .at2 .result) 5461 (read-bound (s .args .x .now) (2 * s .args .j + 1) (s .pre .1 .0) (c .before .before .at2 .ensures .0))
-    ∷ given (c .before .at3 .result) 5461 (read-bound (s .args .y .now) (2 * s .args .k) (s .pre .1 .1) (c .before .at3 .ensures .0))
-    ∷ given (c .at4 .result) 5461 (read-bound (s .args .y .now) (2 * s .args .k + 1) (s .pre .1 .1) (c .at4 .ensures .0))
+    given (c .before .before .before .at .result) (2 ^ 23) (read-bound (s .args .x .now) (2 * s .args .j) (s .pre .1 .0) (c .before .before .before .at .ensures .0))
+    ∷ given (c .before .before .at2 .result) (2 ^ 23) (read-bound (s .args .x .now) (2 * s .args .j + 1) (s .pre .1 .0) (c .before .before .at2 .ensures .0))
+    ∷ given (c .before .at3 .result) (2 ^ 23) (read-bound (s .args .y .now) (2 * s .args .k) (s .pre .1 .1) (c .before .at3 .ensures .0))
+    ∷ given (c .at4 .result) (2 ^ 23) (read-bound (s .args .y .now) (2 * s .args .k + 1) (s .pre .1 .1) (c .at4 .ensures .0))
     ∷ []
 
 abbrev xa : Expr
@@ -61,8 +62,8 @@ y-is c = ap₂ value (c .before .at3 .ensures .0) (c .at4 .ensures .0)
 returns : tie.Need-returns
 returns c = (
   ap₂ value (exact w64 (ρ c) a tt) (exact w64 (ρ c) b tt) ∙ by-three _ _ ∙ ap₂ _*ω_ (x-is c) (y-is c),
-  size-read w64 (ρ c) a (2 ^ 29) tt tt,
-  size-read w64 (ρ c) b (2 ^ 29) tt tt,
+  size-read w64 (ρ c) a (2 ^ 49) tt tt,
+  size-read w64 (ρ c) b (2 ^ 49) tt tt,
 )
 
 pub product-spec : {M : Type 1} → statement M

@@ -1,0 +1,192 @@
+// Convolution modulo q: the product of two arrays, wrapped at N and reduced.
+ghost use mathlib.Core.Path.{_≡_};
+ghost use Prim.Native.Nat.{ℕ, _+_, _*_, _^_, _<_, _≤_};
+ghost use lib.IntN.{pos, natAbs};
+ghost use lib.ListN.{length, getD, take, set};
+ghost use Rattle.eisenstein.specs.Values.{value};
+ghost use Rattle.eisenstein.specs.Reduction.{modQ};
+ghost use Rattle.polynomials.specs.Polynomials.{coefficient, array, convolution};
+ghost use Rattle.arrays.specs.Arrays.{Small};
+ghost use Rattle.arrays.specs.Conditions.{Modulus};
+ghost use Rattle.halving.specs.Products.{wrapped};
+ghost use Rattle.convolution.specs.Conditions.{Convolvable, Convolved, Reducible, Rooms};
+use crate::direct::product_at;
+use crate::halves::multiply;
+use eisenstein::Wide;
+
+// Stores v reduced modulo q = (c, d) as coefficient i.
+fn store_remainder(out: &mut [i32], i: usize, v: Wide, c: i32, d: i32)
+    requires { ⌜ (i < 1024) × (2 * i + 1 < length (now out)) × Reducible (value (v .a) (v .b)) × Modulus (value c d) ⌝ }
+    ensures { λ _. ⌜ now (out .exit) ≡ set (set (now (out .entry)) (2 * i) (modQ (value c d) (value (v .a) (v .b)) .a)) (2 * i + 1) (modQ (value c d) (value (v .a) (v .b)) .b) ⌝ }
+{
+    let va = v.a;
+    let vb = v.b;
+    let r = remainders::remainder_q(va, vb, c, d);
+    let a = r.a;
+    let b = r.b;
+    out[2 * i] = a;
+    out[2 * i + 1] = b;
+}
+
+// Coefficient i of the convolution of two arrays of at most 16 coefficients: that of the product, and what is wrapped to it.
+fn few_wrapped_at(x: &[i32], y: &[i32], n: usize, i: usize) -> Wide
+    requires { ⌜ (i < n) × (n ≤ 16) × (length (now x) ≡ 2 * n) × (length (now y) ≡ 2 * n) ⌝ }
+    requires { ⌜ Small (now x) ⌝ }
+    requires { ⌜ Small (now y) ⌝ }
+    ensures { λ r. ⌜ value (r .a) (r .b) ≡ convolution n (coefficient (now (x .entry))) (coefficient (now (y .entry))) i ⌝ }
+{
+    let early = product_at(x, y, n, i);
+    let later = product_at(x, y, n, n + i);
+    let ea = early.a;
+    let eb = early.b;
+    let la = later.a;
+    let lb = later.b;
+    Wide {
+        a: ea + la,
+        b: eb + lb,
+    }
+}
+
+// x × y reduced modulo q, to out, for at most 16 coefficients.
+fn convolve_few(x: &[i32], y: &[i32], n: usize, c: i32, d: i32, out: &mut [i32])
+    requires { ⌜ (n ≤ 16) × Convolvable n (value c d) (now x) (now y) (now out) ⌝ }
+    ensures { λ _. ⌜ Convolved n (value c d) (now (x .entry)) (now (y .entry)) (now (out .exit)) ⌝ }
+{
+    let mut k = 0;
+    while k < n {
+        store_remainder(out, k, few_wrapped_at(x, y, n, k), c, d);
+        k += 1;
+    }
+}
+
+// Coefficient i of a product of 2n coefficients, wrapped at n.
+fn wrapped_at(w: &[i64], n: usize, i: usize) -> Wide
+    requires { ⌜ (i < n) × (n ≤ 1024) × (4 * n ≤ length (now w)) ⌝ }
+    requires { ⌜ ((k : ℕ) → k < 4 * n → natAbs (getD (now w) k (pos 0)) ≤ 2 ^ 59) ⌝ }
+    ensures { λ r. ⌜ value (r .a) (r .b) ≡ wrapped n (coefficient (now (w .entry))) i ⌝ }
+{
+    let fa = w[2 * i];
+    let fb = w[2 * i + 1];
+    let la = w[2 * (n + i)];
+    let lb = w[2 * (n + i) + 1];
+    Wide {
+        a: fa + la,
+        b: fb + lb,
+    }
+}
+
+// A product of 2n coefficients, wrapped at n and reduced modulo q, to out.
+fn reduce_wrapped(w: &[i64], n: usize, c: i32, d: i32, out: &mut [i32])
+    requires { ⌜ (n ≤ 1024) × (4 * n ≤ length (now w)) × (length (now out) ≡ 2 * n) × Modulus (value c d) ⌝ }
+    requires { ⌜ ((k : ℕ) → k < 4 * n → natAbs (getD (now w) k (pos 0)) ≤ 2 ^ 59) ⌝ }
+    requires { ⌜ ((i : ℕ) → i < n → Reducible (wrapped n (coefficient (now w)) i)) ⌝ }
+    ensures { λ _. ⌜ now (out .exit) ≡ array n (λ i. modQ (value c d) (wrapped n (coefficient (now (w .entry))) i)) ⌝ }
+{
+    let mut i = 0;
+    while i < n {
+        store_remainder(out, i, wrapped_at(w, n, i), c, d);
+        i += 1;
+    }
+}
+
+// Copies an array to the start of another.
+fn copy(from: &[i32], to: &mut [i32])
+    requires { ⌜ length (now from) ≤ length (now to) ⌝ }
+    ensures { λ _. ⌜ take (length (now (from .entry))) (now (to .exit)) ≡ now (from .entry) ⌝ }
+{
+    let mut k = 0;
+    while k < from.len() {
+        to[k] = from[k];
+        k += 1;
+    }
+}
+
+// x × y reduced modulo q, to out, with room for a copy of each and for their product.
+fn convolve_in(
+    x: &[i32],
+    y: &[i32],
+    n: usize,
+    c: i32,
+    d: i32,
+    xs: &mut [i32],
+    ys: &mut [i32],
+    w: &mut [i64],
+    out: &mut [i32],
+)
+    requires { ⌜ Convolvable n (value c d) (now x) (now y) (now out) × Rooms n (now xs) (now ys) (now w) ⌝ }
+    ensures { λ _. ⌜ Convolved n (value c d) (now (x .entry)) (now (y .entry)) (now (out .exit)) ⌝ }
+{
+    copy(x, xs);
+    copy(y, ys);
+    multiply(&mut xs[..2 * n], &mut ys[..2 * n], n, w);
+    reduce_wrapped(w, n, c, d, out);
+}
+
+// Room for the product at the largest N, 68 KiB. For N up to 128 and up to 32 there are smaller rooms, which are cleared sooner.
+fn large_room() -> [i64; 8704]
+    ensures { λ r. ⌜ length r ≡ 8704 ⌝ }
+{
+    [0i64; 8704]
+}
+
+fn medium_room() -> [i64; 1088]
+    ensures { λ r. ⌜ length r ≡ 1088 ⌝ }
+{
+    [0i64; 1088]
+}
+
+fn small_room() -> [i64; 272]
+    ensures { λ r. ⌜ length r ≡ 272 ⌝ }
+{
+    [0i64; 272]
+}
+
+fn convolve_in_large(x: &[i32], y: &[i32], n: usize, c: i32, d: i32, out: &mut [i32])
+    requires { ⌜ (2 ≤ n) × Convolvable n (value c d) (now x) (now y) (now out) ⌝ }
+    ensures { λ _. ⌜ Convolved n (value c d) (now (x .entry)) (now (y .entry)) (now (out .exit)) ⌝ }
+{
+    let mut xs = arrays::zeros();
+    let mut ys = arrays::zeros();
+    let mut w = large_room();
+    convolve_in(x, y, n, c, d, &mut xs, &mut ys, &mut w, out);
+}
+
+fn convolve_in_medium(x: &[i32], y: &[i32], n: usize, c: i32, d: i32, out: &mut [i32])
+    requires { ⌜ (2 ≤ n) × (n ≤ 128) × Convolvable n (value c d) (now x) (now y) (now out) ⌝ }
+    ensures { λ _. ⌜ Convolved n (value c d) (now (x .entry)) (now (y .entry)) (now (out .exit)) ⌝ }
+{
+    let mut xs = arrays::few_zeros();
+    let mut ys = arrays::few_zeros();
+    let mut w = medium_room();
+    convolve_in(x, y, n, c, d, &mut xs, &mut ys, &mut w, out);
+}
+
+fn convolve_in_small(x: &[i32], y: &[i32], n: usize, c: i32, d: i32, out: &mut [i32])
+    requires { ⌜ (2 ≤ n) × (n ≤ 32) × Convolvable n (value c d) (now x) (now y) (now out) ⌝ }
+    ensures { λ _. ⌜ Convolved n (value c d) (now (x .entry)) (now (y .entry)) (now (out .exit)) ⌝ }
+{
+    let mut xs = arrays::few_zeros();
+    let mut ys = arrays::few_zeros();
+    let mut w = small_room();
+    convolve_in(x, y, n, c, d, &mut xs, &mut ys, &mut w, out);
+}
+
+// x × y reduced modulo q = (c, d), to out.
+pub(crate) fn convolve_q(x: &[i32], y: &[i32], n: usize, c: i32, d: i32, out: &mut [i32])
+    requires { ⌜ Convolvable n (value c d) (now x) (now y) (now out) ⌝ }
+    ensures { λ _. ⌜ Convolved n (value c d) (now (x .entry)) (now (y .entry)) (now (out .exit)) ⌝ }
+{
+    if n <= 16 {
+        convolve_few(x, y, n, c, d, out);
+        return;
+    }
+    if n <= 32 {
+        convolve_in_small(x, y, n, c, d, out);
+        return;
+    }
+    if n <= 128 {
+        convolve_in_medium(x, y, n, c, d, out);
+        return;
+    }
+    convolve_in_large(x, y, n, c, d, out);
+}
