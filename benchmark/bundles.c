@@ -39,9 +39,7 @@ static void expect(const char *what, bool holds) {
 
 // A bundle of random arrays, as many as fit.
 static void make_bundle(uint32_t n) {
-    // s and t are about 2N/3, s a multiple of 3 from 3 on; for this q the bound holds up to N = 1,024.
-    uint32_t thirds = 2 * n / 9;
-    parameters = (struct parameters){.n = n, .c = 4095, .d = 2, .s = 3 * (thirds > 0 ? thirds : 1), .t = 2 * n / 3};
+    parameters = parameters_at(n);
     draw_units(&parameters, f, parameters.t, false);
     draw_reduced_modulo_2(&parameters, f2);
     shuffle(stops, UINT16_MAX + 1);

@@ -1,4 +1,4 @@
-// Random inputs of the calls, for a parameter set. Every array has room for the largest N.
+// The parameter set at an N, and random inputs of the calls for it. Every array has room for the largest N.
 #ifndef DRAWING_H
 #define DRAWING_H
 
@@ -13,6 +13,12 @@
 
 #define MAX_NUMBERS ETRU_ARRAY_NUMBERS(ETRU_MAX_N)
 #define MAX_BYTES ETRU_MESSAGE_BYTES(ETRU_MAX_N)
+
+// s and t are about 2N/3, s a multiple of 3 from 3 on; for this q the bound holds up to N = 1,024.
+static inline struct parameters parameters_at(uint32_t n) {
+    uint32_t thirds = 2 * n / 9;
+    return (struct parameters){.n = n, .c = 4095, .d = 2, .s = 3 * (thirds > 0 ? thirds : 1), .t = 2 * n / 3};
+}
 
 // Units at random places, as many as `count`; they may be asked to be whole triples, and then they are a multiple of 3.
 // Unit k times unit 2, which is ω, is unit k + 2, so units k, k + 2 and k + 4 are a triple.

@@ -1,6 +1,6 @@
 """The benchmark's tables and plot, from the records of speed.c, libntru.c and bundles.c.
 
-Usage: report.py --machine TEXT --table N... --bundles N... -- DATA
+Usage: report.py --machine TEXT --table N... --convolutions N... --bundles N... -- DATA
 
 Prints the tables, puts them between the marks of docs/PERFORMANCE.md, and writes docs/performance.svg.
 """
@@ -35,7 +35,9 @@ LIBNTRU = ["libntru 2/3", "libntru 4/9"]
 def microseconds(time):
     if time is None:
         return "–"
-    return "beyond" if time == math.inf else f"{time:,.1f}"
+    if time == math.inf:
+        return "beyond"
+    return f"{time:,.1f}" if time >= 1 else f"{time:.2f}"
 
 
 def ratio(time, other):
@@ -65,11 +67,33 @@ def sealing_and_opening(times, sizes):
 
 
 def convolution(times, sizes):
+    head = ["N", "etru_convolve µs", "direct sum in C µs", "times as fast", "same algorithm in C µs", "ours / same"]
     rows = []
     for n in sizes:
-        ours, same = (times["convolution", who][n] for who in ("ours", "same"))
-        rows.append([f"{n:,}", microseconds(ours), microseconds(same), ratio(ours, same)])
-    return table(["N", "etru_convolve µs", "direct sum in C µs", "ours / C"], rows)
+        ours, direct, same = (times["convolution", who][n] for who in ("ours", "direct", "same"))
+        row = [f"{n:,}", microseconds(ours), microseconds(direct), ratio(direct, ours)]
+        rows.append([*row, microseconds(same), ratio(ours, same)])
+    return table(head, rows)
+
+
+def doubling(times, sizes):
+    """How many times the cost of N that of 2N is, wherever both are among the sizes."""
+    rows = []
+    for n in sizes:
+        if 2 * n in sizes:
+            costs = (times["convolution", who] for who in ("ours", "direct", "same"))
+            rows.append([f"{n:,} → {2 * n:,}", *(ratio(by_n[2 * n], by_n[n]) for by_n in costs)])
+    return table(["N", "etru_convolve", "direct sum in C", "same algorithm in C"], rows)
+
+
+def f_times_e(times, sizes):
+    head = ["N", "by rotations in C µs", "by halving in C µs", "etru_convolve(f, e) µs"]
+    head += ["halving in C / rotations in C"]
+    rows = []
+    for n in sizes:
+        rotations, halving, ours = (times["f × e", who][n] for who in ("rotations", "halving", "ours"))
+        rows.append([f"{n:,}", *map(microseconds, (rotations, halving, ours)), ratio(halving, rotations)])
+    return table(head, rows)
 
 
 def full_bundles(times, sizes):
@@ -92,10 +116,12 @@ def libntru_note(times, sizes):
     return ""
 
 
-def measured(times, sizes, bundle_sizes, machine):
+def measured(times, sizes, convolution_sizes, bundle_sizes, machine):
     return (
         f"Measured on {machine}.\n\nSealing and opening:\n\n{sealing_and_opening(times, sizes)}"
-        f"{libntru_note(times, sizes)}\nConvolution:\n\n{convolution(times, sizes)}"
+        f"{libntru_note(times, sizes)}\nConvolution:\n\n{convolution(times, convolution_sizes)}"
+        f"\nConvolution, how many times the cost when N doubles:\n\n{doubling(times, convolution_sizes)}"
+        f"\nf × e modulo q:\n\n{f_times_e(times, convolution_sizes)}"
         f"\nA full bundle:\n\n{full_bundles(times, bundle_sizes)}"
     )
 
@@ -195,12 +221,13 @@ def main():
     parser = argparse.ArgumentParser()
     parser.add_argument("--machine", required=True)
     parser.add_argument("--table", type=int, nargs="+", required=True)
+    parser.add_argument("--convolutions", type=int, nargs="+", required=True)
     parser.add_argument("--bundles", type=int, nargs="+", required=True)
     parser.add_argument("data", type=pathlib.Path)
     arguments = parser.parse_args()
 
     times = read_records(arguments.data)
-    report = measured(times, arguments.table, arguments.bundles, arguments.machine)
+    report = measured(times, arguments.table, arguments.convolutions, arguments.bundles, arguments.machine)
     print(report, end="")
     put_between_marks(DOCS / "PERFORMANCE.md", report)
     (DOCS / "performance.svg").write_text(plot(times))

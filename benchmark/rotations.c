@@ -114,7 +114,15 @@ void multiply_by_single_rotations(size_t n, const int32_t *x, const int32_t *y, 
     }
 }
 
-// ---- Sealing and opening
+// ---- Convolution, sealing and opening
+
+void rotations_convolve(unit_product *multiply, const struct parameters *p, const int32_t *x, const int32_t *y,
+                        int32_t *out) {
+    multiply(p->n, x, y, out);
+    for (size_t i = 0; i < p->n; i++) {
+        set_coefficient(out, i, remainder_modulo_q(coefficient(out, i), modulus(p)));
+    }
+}
 
 uint32_t rotations_seal(unit_product *multiply, const struct parameters *p, const int32_t *h, const int32_t *phi,
                         const uint8_t *message, int32_t *e) {
@@ -147,10 +155,7 @@ uint32_t rotations_open(unit_product *multiply, const struct parameters *p, cons
         return ETRU_NOT_REDUCED_MODULO_Q;
     }
     int32_t unsealed[MAX_NUMBERS], opened[MAX_NUMBERS];
-    multiply(p->n, f, e, unsealed);
-    for (size_t i = 0; i < p->n; i++) {
-        set_coefficient(unsealed, i, remainder_modulo_q(coefficient(unsealed, i), modulus(p)));
-    }
+    rotations_convolve(multiply, p, f, e, unsealed);
     multiply(p->n, f2, unsealed, opened);
     memset(message, 0, ETRU_MESSAGE_BYTES(p->n));
     for (size_t i = 0; i < p->n; i++) {

@@ -1,6 +1,8 @@
-// Measures the library's sealing, opening and convolution beside C, at each N that is given.
+// Measures the library's calls beside C, at each N that is given: sealing and opening, or convolution and the product
+// f × e, which is the first of an opening.
 //
-// Usage: speed N...
+// Usage: speed sealing N...
+//        speed convolution N...
 // Each record of the output is a line of N, the call, who does it and its best time in microseconds, with tabs between.
 // The status is 1 if a call is refused or two outputs differ.
 #include <stdint.h>
@@ -12,6 +14,7 @@
 #include "coefficients.h"
 #include "drawing.h"
 #include "etru.h"
+#include "halving.h"
 #include "measuring.h"
 #include "plain.h"
 #include "rotations.h"
@@ -70,19 +73,47 @@ static uint32_t convolve_ours(union output *out) {
     return etru_convolve(PARAMETERS, LENT(h), LENT(e), LENT(out->numbers));
 }
 
-// The library's convolution is a direct sum too: the plain one, with the library's checks.
-static uint32_t convolve_same(union output *out) {
-    if (!reduced_modulo_q(parameters.n, modulus(&parameters), h) ||
-        !reduced_modulo_q(parameters.n, modulus(&parameters), e)) {
+// A convolution in C, with the library's checks of both operands.
+typedef void convolution(const struct parameters *p, const int32_t *x, const int32_t *y, int32_t *out);
+
+static uint32_t convolve_checked(convolution *convolve, const int32_t *x, const int32_t *y, union output *out) {
+    if (!reduced_modulo_q(parameters.n, modulus(&parameters), x) ||
+        !reduced_modulo_q(parameters.n, modulus(&parameters), y)) {
         return ETRU_NOT_REDUCED_MODULO_Q;
     }
-    plain_convolve(&parameters, h, e, out->numbers);
+    convolve(&parameters, x, y, out->numbers);
     return ETRU_OK;
+}
+
+static uint32_t convolve_direct(union output *out) {
+    return convolve_checked(plain_convolve, h, e, out);
+}
+
+static uint32_t convolve_same(union output *out) {
+    return convolve_checked(halving_convolve, h, e, out);
+}
+
+// f × e with the same checks of arrays for all, so that those in C differ in how they form the product alone: f is asked
+// whether it is reduced modulo q, as etru_convolve asks, and not whether it is of its set.
+static uint32_t multiply_f_ours(union output *out) {
+    return etru_convolve(PARAMETERS, LENT(f), LENT(e), LENT(out->numbers));
+}
+
+static void convolve_by_six_rotations(const struct parameters *p, const int32_t *x, const int32_t *y, int32_t *out) {
+    rotations_convolve(multiply_by_six_rotations, p, x, y, out);
+}
+
+static uint32_t multiply_f_rotations(union output *out) {
+    return convolve_checked(convolve_by_six_rotations, f, e, out);
+}
+
+static uint32_t multiply_f_halving(union output *out) {
+    return convolve_checked(halving_convolve, f, e, out);
 }
 
 // ---- Measuring
 
-enum { MAX_CONTENDERS = 4 };
+enum { MAX_CONTENDERS = 4, SMALL_N = 64, CALLS_AT_SMALL_N = 100 };
 
 struct contender {
     const char *name;
@@ -93,14 +124,19 @@ static void measure(const char *call, const struct contender *contenders, size_t
     static union output outputs[MAX_CONTENDERS];
     double best[MAX_CONTENDERS];
     unsigned n = (unsigned)parameters.n;
+    // At a small N one call is too short for the clock, so a repetition is several calls in a row.
+    int calls = n < SMALL_N ? CALLS_AT_SMALL_N : 1;
 
     for (int repetition = 0; repetition < REPETITIONS; repetition++) {
         for (size_t k = 0; k < count; k++) {
             // Different before, so that an output left untouched is noticed.
             memset(&outputs[k], 0x11 * (int)(k + 1), sizeof outputs[k]);
+            uint32_t number = ETRU_OK;
             double start = microseconds();
-            uint32_t number = contenders[k].run(&outputs[k]);
-            double elapsed = microseconds() - start;
+            for (int done = 0; done < calls && number == ETRU_OK; done++) {
+                number = contenders[k].run(&outputs[k]);
+            }
+            double elapsed = (microseconds() - start) / calls;
             if (number != ETRU_OK) {
                 fprintf(stderr, "speed: N = %u, %s, %s: refusal %u\n", n, call, contenders[k].name, (unsigned)number);
                 exit(1);
@@ -116,19 +152,12 @@ static void measure(const char *call, const struct contender *contenders, size_t
         }
     }
     for (size_t k = 0; k < count; k++) {
-        printf("%u\t%s\t%s\t%.3f\n", n, call, contenders[k].name, best[k]);
+        printf("%u\t%s\t%s\t%.4f\n", n, call, contenders[k].name, best[k]);
     }
 }
 
-static void measure_calls(uint32_t n) {
-    static const struct contender sealing[] = {
-        {"ours", seal_ours}, {"plain", seal_plain}, {"same", seal_same}, {"single", seal_single}};
-    static const struct contender opening[] = {
-        {"ours", open_ours}, {"plain", open_plain}, {"same", open_same}, {"single", open_single}};
-    static const struct contender convolving[] = {{"ours", convolve_ours}, {"same", convolve_same}};
-
-    // s and t are about 2N/3, s a multiple of 3; for this q the bound holds up to N = 1,024.
-    parameters = (struct parameters){.n = n, .c = 4095, .d = 2, .s = 2 * n / 9 * 3, .t = 2 * n / 3};
+static void draw_inputs(uint32_t n) {
+    parameters = parameters_at(n);
     uint32_t number = etru_check_parameters(PARAMETERS);
     if (number != ETRU_OK) {
         fprintf(stderr, "speed: N = %u: refusal %u\n", (unsigned)n, (unsigned)number);
@@ -140,16 +169,41 @@ static void measure_calls(uint32_t n) {
     draw_units(&parameters, f, parameters.t, false);
     draw_reduced_modulo_2(&parameters, f2);
     draw_reduced_modulo_q(&parameters, e);
+}
 
-    size_t array_bytes = ETRU_ARRAY_NUMBERS(n) * sizeof(int32_t);
-    measure("sealing", sealing, 4, array_bytes);
+static void measure_sealing(uint32_t n) {
+    static const struct contender sealing[] = {
+        {"ours", seal_ours}, {"plain", seal_plain}, {"same", seal_same}, {"single", seal_single}};
+    static const struct contender opening[] = {
+        {"ours", open_ours}, {"plain", open_plain}, {"same", open_same}, {"single", open_single}};
+    measure("sealing", sealing, 4, ETRU_ARRAY_NUMBERS(n) * sizeof(int32_t));
     measure("opening", opening, 4, ETRU_MESSAGE_BYTES(n));
-    measure("convolution", convolving, 2, array_bytes);
+}
+
+static void measure_convolution(uint32_t n) {
+    static const struct contender convolving[] = {
+        {"ours", convolve_ours}, {"direct", convolve_direct}, {"same", convolve_same}};
+    static const struct contender multiplying_f[] = {
+        {"ours", multiply_f_ours}, {"rotations", multiply_f_rotations}, {"halving", multiply_f_halving}};
+    measure("convolution", convolving, 3, ETRU_ARRAY_NUMBERS(n) * sizeof(int32_t));
+    measure("f × e", multiplying_f, 3, ETRU_ARRAY_NUMBERS(n) * sizeof(int32_t));
 }
 
 int main(int argument_count, char **arguments) {
-    for (int k = 1; k < argument_count; k++) {
-        measure_calls((uint32_t)strtoul(arguments[k], NULL, 10));
+    const char *which = argument_count > 1 ? arguments[1] : "";
+    void (*measure_calls)(uint32_t n);
+    if (strcmp(which, "sealing") == 0) {
+        measure_calls = measure_sealing;
+    } else if (strcmp(which, "convolution") == 0) {
+        measure_calls = measure_convolution;
+    } else {
+        fprintf(stderr, "speed: the first argument is neither sealing nor convolution\n");
+        return 1;
+    }
+    for (int k = 2; k < argument_count; k++) {
+        uint32_t n = (uint32_t)strtoul(arguments[k], NULL, 10);
+        draw_inputs(n);
+        measure_calls(n);
     }
     return 0;
 }

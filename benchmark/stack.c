@@ -123,7 +123,7 @@ int main(void) {
     } calls[] = {{"etru_reduce_q", reduce_q, 1},
                  {"etru_reduce_2", reduce_2, 1},
                  {"etru_check_parameters", check_parameters, 1},
-                 {"etru_convolve", convolve, 1},
+                 {"etru_convolve", convolve, 100},
                  {"etru_check_key", check_key, 28},
                  {"etru_seal", seal, 12},
                  {"etru_seal_places", seal_places, 36},
