@@ -134,6 +134,12 @@ class Library:
     def convolve(self, n, q, s, t, x, y, before):
         return call(self.library.etru_convolve, (n, *q, s, t), [x, y], before)
 
+    def convolve_in_block(self, n, q, s, t, block, x, y, out):
+        """The arrays stand in one block, an array.array of 32 bits, each given by its place and count; the number."""
+        lent_arrays = [(I32.from_buffer(block, 4 * place), count) for place, count in (x, y, out)]
+        slices = [part for first, count in lent_arrays for part in (ctypes.byref(first), count)]
+        return self.library.etru_convolve(n, *q, s, t, *slices)
+
     def check_key(self, n, q, s, t, f, f2, fq, g, before):
         return call(self.library.etru_check_key, (n, *q, s, t), [f, f2, fq, g], before)
 
