@@ -314,9 +314,11 @@ def dense(results, library, rng, p):
 
 def dense_by_definition(results, library, rng, p):
     """The same by the definition, against which the quicker way is held."""
+    left, right = largest(rng, p), largest(rng, p)
     for x, y in [
         (random_reduced(rng, p), random_reduced(rng, p)),
-        (largest(rng, p)["cut by cut"], largest(rng, p)["any"]),
+        (left["constant"], right["constant"]),
+        (left["cut by cut"], right["cut by cut"]),
     ]:
         wanted = by_definition(p, x, y)
         results.expect(f"the quicker way, N = {p.n}, q = {p.q}", quickly(p, x, y), wanted)
@@ -381,7 +383,7 @@ def at_once(results, library, rng):
 
     def work(k):
         p, x, y = operands[k]
-        block, places = array("i", x + y + x), [(place * 2 * p.n, 2 * p.n) for place in range(3)]
+        block, places = array("i", x + y + x + [0] * GUARD), [(place * 2 * p.n, 2 * p.n) for place in range(3)]
         for _ in range(50):
             number = library.convolve_in_block(p.n, p.q, p.s, p.t, block, *places)
             given[k].append((number, block[4 * p.n :]))
@@ -392,7 +394,8 @@ def at_once(results, library, rng):
     for thread in threads:
         thread.join()
     for (p, x, y), outcomes in zip(operands, given):
-        results.expect(f"calls at once, N = {p.n}", outcomes, [(0, array("i", quickly(p, x, y)))] * 50)
+        wanted = (0, array("i", quickly(p, x, y) + [0] * GUARD))
+        results.expect(f"calls at once, N = {p.n}", outcomes, [wanted] * 50)
 
 
 # ---- refusals
