@@ -107,3 +107,21 @@ pub norm-bound : (x : ℤ[ω]) (m : ℕ) → natAbs (x .a) ≤ m → natAbs (x .
 unfolding norm
 norm-bound x m p q =
     omega (arith, natAbs-+ ((x .a *ℤ x .a) -ℤ (x .a *ℤ x .b)) (x .b *ℤ x .b), natAbs-- (x .a *ℤ x .a) (x .a *ℤ x .b), natAbs-* (x .a) (x .a), natAbs-* (x .a) (x .b), natAbs-* (x .b) (x .b), mul-le-mul p p, mul-le-mul p q, mul-le-mul q q)
+
+-- the trace of x·conj(y)
+abbrev pub trace : ℤ[ω] → ℤ[ω] → ℤ
+trace x y = (x .a *ℤ ((y .a +ℤ y .a) -ℤ y .b)) +ℤ (x .b *ℤ ((y .b +ℤ y .b) -ℤ y .a))
+
+form-- : (a b c d : ℤ) → (((a -ℤ c) *ℤ (a -ℤ c)) -ℤ ((a -ℤ c) *ℤ (b -ℤ d))) +ℤ ((b -ℤ d) *ℤ (b -ℤ d)) ≡ (((a *ℤ a) -ℤ (a *ℤ b)) +ℤ (b *ℤ b)) +ℤ ((((c *ℤ c) -ℤ (c *ℤ d)) +ℤ (d *ℤ d)) -ℤ ((a *ℤ ((c +ℤ c) -ℤ d)) +ℤ (b *ℤ ((d +ℤ d) -ℤ c))))
+form-- =
+    ring 4
+    (λ a b c d. let e = a ⊝ c in let f = b ⊝ d in e ⊗ e ⊝ e ⊗ f ⊕ f ⊗ f ⊜ a ⊗ a ⊝ a ⊗ b ⊕ b ⊗ b ⊕ (c ⊗ c ⊝ c ⊗ d ⊕ d ⊗ d ⊝ (a ⊗ (c ⊕ c ⊝ d) ⊕ b ⊗ (d ⊕ d ⊝ c))))
+    tt
+
+-- the norm of x − y is that of x, plus that of y, less the trace
+pub norm-difference : (x y : ℤ[ω]) → pos (norm (x -ω y)) ≡ pos (norm x) +ℤ (pos (norm y) -ℤ trace x y)
+unfolding _-ω_
+norm-difference x y =
+    sym (norm-form (x -ω y))
+    ∙ form-- (x .a) (x .b) (y .a) (y .b)
+    ∙ ap₂ (λ (m n : ℤ). m +ℤ (n -ℤ trace x y)) (norm-form x) (norm-form y)

@@ -7,50 +7,35 @@ use Prim.Native.Nat.{ℕ, zero, suc, _+_, _*_, _≤_, _<_}
 use native.Mathlib.Omega.{arith}
 use native.Mathlib.Decide.{decLt, decLe}
 use native.Mathlib.Nat.{mul-le-mul, mul-le-mul-left, mul-assoc, le-of-mul-le-mul-right}
+use borrow.Author.Tests.{lt-ltb, le-leb}
 use lib.Dec.{T, eqb}
-use lib.IntN.{ℤ, pos, negsuc, natAbs, _+ℤ_, _-ℤ_, _*ℤ_}
+use lib.IntN.{ℤ, pos, negsuc, negℤ, natAbs, _+ℤ_, _-ℤ_, _*ℤ_}
 use lib.Signed.{_≤ℤ_, _<ℤ_, ltZ, leZ, ltZ-yes, ltZ-no, leZ-yes}
 use mir.Facts.{and-yes, yes-and, or-yes, not-T, eqb-yes}
-use Rattle.integers.proofs.Ring.{Expr, var, sound, ring, con, _⊕_, _⊝_, _⊗_, _⊜_}
+use Rattle.integers.proofs.Ring.{Expr, var, sound, ring, con, _⊕_, _⊝_, _⊗_, ⊖_, _⊜_}
 use Rattle.integers.proofs.Absolute.{square, square-le}
 use Rattle.integers.proofs.Tests.{every, every-at}
-use Rattle.integers.proofs.Order.{above, below, orders, less-or-equal, eq-parts, parts-+, parts--, above-pos, below-pos}
+use Rattle.integers.proofs.Order.{above, below, orders, less-or-equal, eq-parts, parts-+, parts--, above-pos, below-pos, above-neg, below-neg}
+use Rattle.own_remainders.specs.Neighbours.{lead, within}
 use Rattle.eisenstein.specs.Values.{ℤ[ω], value, 𝟘, _+ω_, _-ω_, _*ω_, norm, unit, same, Congruent}
 use Rattle.eisenstein.specs.Reduction.{AsGood, smaller-norm, larger-a, larger-b, Remainder, modQ}
 use Rattle.eisenstein.proofs.Solver.{Exprω, parts, ringω, conω, _≐_, _⊞_, _⊟_, _⊠_}
 use Rattle.eisenstein.proofs.Laws.{less-multiple, in-class-is, congruent-refl}
-use Rattle.eisenstein.proofs.Norms.{form, norm-form, norm-*, part-a, part-b, parallelogram}
+use Rattle.eisenstein.proofs.Norms.{form, norm-form, norm-*, part-a, part-b, parallelogram, trace, norm-difference}
 use Rattle.eisenstein.proofs.TieRule.{as-good-norm, as-good-refl, as-good-antisym}
 use Rattle.eisenstein.proofs.Equality.{same-true, same-false}
 use Rattle.eisenstein.proofs.Remainders.{norm-pos, modQ-is-remainder, remainder-norm, difference}
 
 -- ---- one neighbour
 
--- the trace of r·conj(w)
-abbrev pub trace : ℤ[ω] → ℤ[ω] → ℤ
-trace r w = (r .a *ℤ ((w .a +ℤ w .a) -ℤ w .b)) +ℤ (r .b *ℤ ((w .b +ℤ w .b) -ℤ w .a))
-
--- the test of the code's `as_good`
-abbrev pub asGood : (t n a b : ℤ) → Bool
+-- whether r is as good as r − w, w = (a, b), by the trace t and the norm n
+abbrev asGood : (t n a b : ℤ) → Bool
 asGood t n a b = ltZ t n || (not (ltZ n t) && (ltZ (pos 0) a || (not (ltZ a (pos 0)) && leZ (pos 0) b)))
-
-form-less : (a b c d : ℤ) → ((((a -ℤ c) *ℤ (a -ℤ c)) -ℤ ((a -ℤ c) *ℤ (b -ℤ d))) +ℤ ((b -ℤ d) *ℤ (b -ℤ d))) +ℤ ((a *ℤ ((c +ℤ c) -ℤ d)) +ℤ (b *ℤ ((d +ℤ d) -ℤ c))) ≡ (((a *ℤ a) -ℤ (a *ℤ b)) +ℤ (b *ℤ b)) +ℤ (((c *ℤ c) -ℤ (c *ℤ d)) +ℤ (d *ℤ d))
-form-less =
-    ring 4
-    (λ a b c d. let e = a ⊝ c in let f = b ⊝ d in e ⊗ e ⊝ e ⊗ f ⊕ f ⊗ f ⊕ (a ⊗ (c ⊕ c ⊝ d) ⊕ b ⊗ (d ⊕ d ⊝ c)) ⊜ a ⊗ a ⊝ a ⊗ b ⊕ b ⊗ b ⊕ (c ⊗ c ⊝ c ⊗ d ⊕ d ⊗ d))
-    tt
 
 -- the norm of r − w is that of r, less the trace, plus that of w
 norm-less : (r w : ℤ[ω]) → norm (r -ω w) + (above (trace r w) + below (pos (norm w))) ≡ norm r + (above (pos (norm w)) + below (trace r w))
-unfolding _-ω_
 norm-less r w =
-    omega (arith, eq-parts whole, parts-+ (pos (norm (r -ω w))) (trace r w), parts-+ (pos (norm r)) (pos (norm w)), above-pos (norm (r -ω w)), below-pos (norm (r -ω w)), above-pos (norm r), below-pos (norm r))
-  where
-    whole : pos (norm (r -ω w)) +ℤ trace r w ≡ pos (norm r) +ℤ pos (norm w)
-    whole =
-        ap (λ (z : ℤ). z +ℤ trace r w) (sym (norm-form (r -ω w)))
-        ∙ form-less (r .a) (r .b) (w .a) (w .b)
-        ∙ ap₂ _+ℤ_ (norm-form r) (norm-form w)
+    omega (arith, eq-parts (norm-difference r w), parts-+ (pos (norm r)) (pos (norm w) -ℤ trace r w), parts-- (pos (norm w)) (trace r w), above-pos (norm (r -ω w)), below-pos (norm (r -ω w)), above-pos (norm r), below-pos (norm r))
 
 -- x − y compares with x as 0 does with y
 part-less : (x y : ℤ) → above (x -ℤ y) + (below x + (above y + below (pos 0))) ≡ below (x -ℤ y) + (above x + (below y + above (pos 0)))
@@ -72,6 +57,82 @@ yes-leZ a b h = h .le
 
 no-ltZ : (a b : ℤ) → b ≤ℤ a → T (not (ltZ a b))
 no-ltZ a b h = not-T (ltZ a b) (λ t. let k : a <ℤ b = ltZ-yes t in omega (arith, orders))
+
+-- ---- two neighbours at once: r − w and r + w
+
+same-truth : (p q : Bool) → (T p → T q) → (T q → T p) → p ≡ q
+same-truth true true f g = refl
+same-truth true false f g = absurd (f tt)
+same-truth false true f g = absurd (g tt)
+same-truth false false f g = refl
+
+-- the test of one neighbour, where the tie rule is for r, and where it is against it
+abbrev test : (t n : ℤ) → Bool → Bool
+test t n wins = ltZ t n || (not (ltZ n t) && wins)
+
+test-won : (t n : ℤ) → t ≤ℤ n → T (test t n true)
+test-won t n h = yes-or (ltZ t n) (not (ltZ n t) && true) (inr (yes-and (not (ltZ n t)) true (no-ltZ n t h) tt))
+
+test-lost : (t n : ℤ) → t <ℤ n → T (test t n false)
+test-lost t n h = yes-or (ltZ t n) (not (ltZ n t) && false) (inl (yes-ltZ t n h))
+
+won-test : (t n : ℤ) → T (test t n true) → t ≤ℤ n
+won-test t n h =
+    ⊎-elim (λ l. let k : t <ℤ n = ltZ-yes l in omega (arith, orders))
+    (λ l. ltZ-no (and-yes (not (ltZ n t)) true l .0))
+    (or-yes (ltZ t n) (not (ltZ n t) && true) h)
+
+lost-test : (t n : ℤ) → T (test t n false) → t <ℤ n
+lost-test t n h =
+    ⊎-elim ltZ-yes (λ l. absurd (and-yes (not (ltZ n t)) false l .1)) (or-yes (ltZ t n) (not (ltZ n t) && false) h)
+
+module _ (t n : ℤ) where
+  -- the tie rule is for r against r − w, and against it for r + w
+  first-won : within t n (pos 1) ≡ (test t n true && test (negℤ t) n false)
+  first-won =
+      same-truth (within t n (pos 1)) (test t n true && test (negℤ t) n false)
+      (λ h.
+      let (k, l) = and-yes (not (ltZ t (pos 1 -ℤ n))) (ltZ t (n +ℤ pos 1)) h in
+      let k′ : (pos 1 -ℤ n) ≤ℤ t = ltZ-no k in
+      let l′ : t <ℤ (n +ℤ pos 1) = ltZ-yes l in
+      yes-and (test t n true) (test (negℤ t) n false)
+      (test-won t n (omega (arith, orders, parts-+ n (pos 1), above-pos 1, below-pos 1)))
+      (test-lost (negℤ t) n (omega (arith, orders, parts-- (pos 1) n, above-pos 1, below-pos 1, above-neg t, below-neg t))))
+      (λ h.
+      let (k, l) = and-yes (test t n true) (test (negℤ t) n false) h in
+      let k′ = won-test t n k in
+      let l′ = lost-test (negℤ t) n l in
+      yes-and (not (ltZ t (pos 1 -ℤ n))) (ltZ t (n +ℤ pos 1))
+      (no-ltZ t (pos 1 -ℤ n) (omega (arith, orders, l′, parts-- (pos 1) n, above-pos 1, below-pos 1, above-neg t, below-neg t)))
+      (yes-ltZ t (n +ℤ pos 1) (omega (arith, orders, k′, parts-+ n (pos 1), above-pos 1, below-pos 1))))
+
+  -- and the other way round
+  second-won : within t n (pos 0) ≡ (test t n false && test (negℤ t) n true)
+  second-won =
+      same-truth (within t n (pos 0)) (test t n false && test (negℤ t) n true)
+      (λ h.
+      let (k, l) = and-yes (not (ltZ t (pos 0 -ℤ n))) (ltZ t (n +ℤ pos 0)) h in
+      let k′ : (pos 0 -ℤ n) ≤ℤ t = ltZ-no k in
+      let l′ : t <ℤ (n +ℤ pos 0) = ltZ-yes l in
+      yes-and (test t n false) (test (negℤ t) n true)
+      (test-lost t n (omega (arith, orders, parts-+ n (pos 0), above-pos 0, below-pos 0)))
+      (test-won (negℤ t) n (omega (arith, orders, parts-- (pos 0) n, above-pos 0, below-pos 0, above-neg t, below-neg t))))
+      (λ h.
+      let (k, l) = and-yes (test t n false) (test (negℤ t) n true) h in
+      let k′ = lost-test t n k in
+      let l′ = won-test (negℤ t) n l in
+      yes-and (not (ltZ t (pos 0 -ℤ n))) (ltZ t (n +ℤ pos 0))
+      (no-ltZ t (pos 0 -ℤ n) (omega (arith, orders, l′, parts-- (pos 0) n, above-pos 0, below-pos 0, above-neg t, below-neg t)))
+      (yes-ltZ t (n +ℤ pos 0) (omega (arith, orders, k′, parts-+ n (pos 0), above-pos 0, below-pos 0))))
+
+  both-sides : (a b : ℤ) → value a b ≢ 𝟘 → within t n (lead a b) ≡ (asGood t n a b && asGood (negℤ t) n (negℤ a) (negℤ b))
+  both-sides (pos zero) (pos zero) h = absurd (h refl)
+  both-sides (pos zero) (pos (suc b)) h = rw (lt-ltb 0 (suc b) (omega arith), le-leb 0 (suc b) (omega arith)) first-won
+  both-sides (pos zero) (negsuc b) h = rw (le-leb 0 (suc b) (omega arith)) second-won
+  both-sides (pos (suc a)) b h = rw (lt-ltb 0 (suc a) (omega arith)) first-won
+  both-sides (negsuc a) b h = rw (lt-ltb 0 (suc a) (omega arith)) second-won
+
+-- ---- what the test of one neighbour tells
 
 module _ (r w : ℤ[ω]) where
   t : ℤ
@@ -178,14 +239,22 @@ opposite : (x q z : ℤ[ω]) → x -ω q *ω (𝟘 -ω z) ≡ x +ω q *ω z
 unfolding _+ω_ _-ω_ _*ω_
 opposite = ringω 3 (λ x q z. x ⊟ q ⊠ (conω 𝟘 ⊟ z) ≐ x ⊞ q ⊠ z) tt
 
+-- the trace as an expression of the solver
+abbrev pub traceᵉ : Exprω → Exprω → Expr
+traceᵉ r w = r .a ⊗ (w .a ⊕ w .a ⊝ w .b) ⊕ r .b ⊗ (w .b ⊕ w .b ⊝ w .a)
+
+opposite-multiple : (q z : ℤ[ω]) → q *ω (𝟘 -ω z) ≡ value (negℤ ((q *ω z) .a)) (negℤ ((q *ω z) .b))
+unfolding _-ω_ _*ω_
+opposite-multiple = ringω 2 (λ q z. let w = q ⊠ z in q ⊠ (conω 𝟘 ⊟ z) ≐ parts (⊖ (w .a)) (⊖ (w .b))) tt
+
+opposite-trace : (r w : ℤ[ω]) → trace r (value (negℤ (w .a)) (negℤ (w .b))) ≡ negℤ (trace r w)
+opposite-trace r w =
+    ring 4 (λ a b c d. traceᵉ (parts a b) (parts (⊖ c) (⊖ d)) ⊜ ⊖ (traceᵉ (parts a b) (parts c d))) tt (r .a) (r .b) (w .a) (w .b)
+
 between : (z : ℤ) (n : ℕ) → above z ≤ n + below z → below z ≤ n + above z → natAbs z ≤ n
 unfolding above below
 between (pos k) n h l = omega arith
 between (negsuc k) n h l = omega arith
-
--- the trace as an expression of the solver
-abbrev pub traceᵉ : Exprω → Exprω → Expr
-traceᵉ r w = r .a ⊗ (w .a ⊕ w .a ⊝ w .b) ⊕ r .b ⊗ (w .b ⊕ w .b ⊝ w .a)
 
 -- the squares of the three traces add up to six times the product of the norms
 trace-squares : (q r : ℤ[ω]) → let x = trace r (q *ω unit 0) in let y = trace r (q *ω unit 1) in let z = trace r (q *ω unit 2) in ((x *ℤ x) +ℤ (y *ℤ y)) +ℤ (z *ℤ z) ≡ pos 6 *ℤ (form r *ℤ form q)
@@ -215,15 +284,42 @@ trace-squares q r =
 abbrev test-by : (q r : ℤ[ω]) (k n : ℕ) → Bool
 test-by q r k n = asGood (trace r (q *ω unit k)) (pos n) ((q *ω unit k) .a) ((q *ω unit k) .b)
 
-abbrev pub tested : ℤ[ω] → ℤ[ω] → ℕ → Bool
+abbrev tested : ℤ[ω] → ℤ[ω] → ℕ → Bool
 tested q r k = test-by q r k (norm q)
+
+-- the test of two neighbours, r − q·unit and r + q·unit
+abbrev pub both-tested : ℤ[ω] → ℤ[ω] → ℕ → Bool
+both-tested q r k = let w = q *ω unit k in within (trace r w) (pos (norm q)) (lead (w .a) (w .b))
+
+both-true : (p q : Bool) → (p && q) ≡ true → (p ≡ true) × (q ≡ true)
+both-true true true e = (refl, refl)
+both-true true false e = (refl, e)
+both-true false q e = absurd (subst (λ (t : Bool). T (not t)) e tt)
+
+one-false : (p q : Bool) → (p && q) ≡ false → (p ≡ false) ⊎ (q ≡ false)
+one-false true q e = inr e
+one-false false q e = inl refl
 
 module _ (q r : ℤ[ω]) (nonzero : q ≢ 𝟘) where
   neighbour-norm : (k : ℕ) → k < 6 → norm (q *ω unit k) ≡ norm q
   neighbour-norm k h = omega (arith, norm-* q (unit k), ap (λ (m : ℕ). norm q * m) (norm-unit k h))
 
+  neighbour-nonzero : (k : ℕ) → k < 6 → q *ω unit k ≢ 𝟘
+  unfolding norm
+  neighbour-nonzero k h e = omega (arith, norm-pos q nonzero, neighbour-norm k h, ap norm e)
+
+  -- the test of two neighbours is that of each
+  each-tested : (j k : ℕ) → j < 6 → unit k ≡ 𝟘 -ω unit j → both-tested q r j ≡ (tested q r j && tested q r k)
+  each-tested j k h e =
+      both-sides (trace r w) (pos (norm q)) (w .a) (w .b) (neighbour-nonzero j h)
+      ∙ ap (λ (t : ℤ). tested q r j && asGood t (pos (norm q)) (negℤ (w .a)) (negℤ (w .b))) (sym (opposite-trace r w))
+      ∙ ap (λ (v : ℤ[ω]). tested q r j && asGood (trace r v) (pos (norm q)) (v .a) (v .b)) (sym (ap (λ (z : ℤ[ω]). q *ω z) e ∙ opposite-multiple q (unit j)))
+    where
+      w : ℤ[ω]
+      w = q *ω unit j
+
   -- a remainder passes each test
-  pub beaten : (k : ℕ) → k < 6 → tested q r k ≡ false → same (modQ q r) r ≡ false
+  beaten : (k : ℕ) → k < 6 → tested q r k ≡ false → same (modQ q r) r ≡ false
   beaten k h e =
       same-false (modQ q r) r
       (λ f. subst T e
@@ -292,7 +388,7 @@ module _ (q r : ℤ[ω]) (nonzero : q ≢ 𝟘) where
             (omega (arith, half, norm-pos q nonzero, remainder-norm q r (modQ q r) nonzero m, parallelogram r (modQ q r), ap norm (ap (λ (y : ℤ[ω]). y -ω modQ q r) (c .equation) ∙ difference (modQ q r) (q *ω z)), norm-* q z, mul-le-mul-left {m = 2} {n = norm z} (norm q) (omega arith)))
 
   -- a value that passes all tests is a remainder
-  pub unbeaten : tested q r 0 ≡ true → tested q r 1 ≡ true → tested q r 2 ≡ true → tested q r 3 ≡ true → tested q r 4 ≡ true → tested q r 5 ≡ true → same (modQ q r) r ≡ true
+  unbeaten : tested q r 0 ≡ true → tested q r 1 ≡ true → tested q r 2 ≡ true → tested q r 3 ≡ true → tested q r 4 ≡ true → tested q r 5 ≡ true → same (modQ q r) r ≡ true
   unbeaten h₀ h₁ h₂ h₃ h₄ h₅ = same-true (own good)
     where
       good : (k : ℕ) → k < 6 → T (tested q r k)
@@ -303,3 +399,30 @@ module _ (q r : ℤ[ω]) (nonzero : q ≢ 𝟘) where
       good (suc (suc (suc (suc zero)))) h = subst T (sym h₄) tt
       good (suc (suc (suc (suc (suc zero))))) h = subst T (sym h₅) tt
       good (suc (suc (suc (suc (suc (suc k)))))) h = absurd (omega arith)
+
+  both-beaten : (j k : ℕ) → j < 6 → k < 6 → unit k ≡ 𝟘 -ω unit j → both-tested q r j ≡ false → same (modQ q r) r ≡ false
+  both-beaten j k h l e f = ⊎-elim (beaten j h) (beaten k l) (one-false (tested q r j) (tested q r k) (sym (each-tested j k h e) ∙ f))
+
+  both-passed : (j k : ℕ) → j < 6 → unit k ≡ 𝟘 -ω unit j → both-tested q r j ≡ true → (tested q r j ≡ true) × (tested q r k ≡ true)
+  both-passed j k h e f = both-true (tested q r j) (tested q r k) (sym (each-tested j k h e) ∙ f)
+
+  -- so three tests of two neighbours decide, one after another
+  pub beaten-0 : both-tested q r 0 ≡ false → same (modQ q r) r ≡ false
+  unfolding _-ω_ unit
+  beaten-0 = both-beaten 0 3 (omega arith) (omega arith) refl
+
+  pub beaten-2 : both-tested q r 2 ≡ false → same (modQ q r) r ≡ false
+  unfolding _-ω_ unit
+  beaten-2 = both-beaten 2 5 (omega arith) (omega arith) refl
+
+  pub decided-by-1 : both-tested q r 0 ≡ true → both-tested q r 2 ≡ true → both-tested q r 1 ≡ same (modQ q r) r
+  unfolding _-ω_ unit
+  decided-by-1 e f = by (both-tested q r 1) refl
+    where
+      by : (t : Bool) → both-tested q r 1 ≡ t → both-tested q r 1 ≡ same (modQ q r) r
+      by false g = g ∙ sym (both-beaten 1 4 (omega arith) (omega arith) refl g)
+      by true g =
+          let (h₀, h₃) = both-passed 0 3 (omega arith) refl e in
+          let (h₂, h₅) = both-passed 2 5 (omega arith) refl f in
+          let (h₁, h₄) = both-passed 1 4 (omega arith) refl g in
+          g ∙ sym (unbeaten h₀ h₁ h₂ h₃ h₄ h₅)

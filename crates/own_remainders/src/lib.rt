@@ -1,35 +1,44 @@
 // Whether a value of Z[ω] is its own remainder modulo q, decided without a division.
 // It reduces nothing.
 ghost use mathlib.Core.Path.{_≡_};
-ghost use mathlib.Core.Bool.{not, _&&_, _||_};
+ghost use mathlib.Core.Bool.{not, _&&_};
 ghost use mathlib.Core.Logic.{_≢_};
 ghost use Prim.Native.Nat.{_≤_, _^_};
-ghost use lib.IntN.{pos, natAbs};
-ghost use lib.Signed.{ltZ, leZ};
+ghost use lib.IntN.{natAbs};
 ghost use Rattle.eisenstein.specs.Values.{value, 𝟘, same};
 ghost use Rattle.eisenstein.specs.Reduction.{modQ};
 ghost use Rattle.eisenstein.specs.Calls.{beyond};
+ghost use Rattle.own_remainders.specs.Neighbours.{lead, within};
 use eisenstein::is_zero;
 use eisenstein::modulus_out_of_range;
 use eisenstein::norm;
 
-// Whether r is as good as r − w, where w = (a, b) has the norm n and r·conj(w) the trace t: the norm of r − w is that of r, less t, plus n.
-fn as_good(t: i64, n: i64, a: i64, b: i64) -> bool
-    ensures { λ r. ⌜ r ≡ (ltZ t n || (not (ltZ n t) && (ltZ (pos 0) a || (not (ltZ a (pos 0)) && leZ (pos 0) b)))) ⌝ }
+// Of r and r − w, with w = (a, b) and where their norms are equal: 1 if r is the better one, else 0.
+fn lead(a: i64, b: i64) -> i64
+    ensures { λ r. ⌜ (r ≡ lead a b) × (natAbs r ≤ 1) ⌝ }
 {
-    if t < n {
-        return true;
-    }
-    if n < t {
-        return false;
-    }
     if 0 < a {
-        return true;
+        return 1;
     }
     if a < 0 {
+        return 0;
+    }
+    if 0 < b {
+        return 1;
+    }
+    0
+}
+
+// Whether r is as good as r − w and as r + w, where w = (a, b) has the norm n and r·conj(w) the trace t: the norm of r − w is that of r, less t, plus n, and the norm of r + w is that of r, plus t, plus n.
+fn as_good(t: i64, n: i64, a: i64, b: i64) -> bool
+    requires { ⌜ natAbs n ≤ 2 ^ 26 ⌝ }
+    ensures { λ r. ⌜ r ≡ within t n (lead a b) ⌝ }
+{
+    let p = lead(a, b);
+    if t < p - n {
         return false;
     }
-    0 <= b
+    t < n + p
 }
 
 // Whether r = (a, b) is as good as its six neighbours r − q·unit, for q = (c, d): x, y and x + y are the traces with q, qω and q(1 + ω).
@@ -44,22 +53,10 @@ fn unbeaten(a: i64, b: i64, c: i64, d: i64) -> bool
     if !as_good(x, n, c, d) {
         return false;
     }
-    if !as_good(0 - x, n, 0 - c, 0 - d) {
-        return false;
-    }
     if !as_good(y, n, 0 - d, c - d) {
         return false;
     }
-    if !as_good(0 - y, n, d, d - c) {
-        return false;
-    }
-    if !as_good(x + y, n, c - d, c) {
-        return false;
-    }
-    if !as_good(0 - x - y, n, d - c, 0 - c) {
-        return false;
-    }
-    true
+    as_good(x + y, n, c - d, c)
 }
 
 // Whether (a, b) is its own remainder modulo q = (c, d), where 2 and 21 do not refuse q: none of its six neighbours (a, b) − q·unit is better. Needs no division.

@@ -1,6 +1,7 @@
 // One value of Z[ω] reduced modulo q, with its refusals.
 // Whether a value is its own remainder is not asked here: that needs no division.
 ghost use mathlib.Core.Path.{_≡_};
+ghost use mathlib.Core.Bool.{cond};
 ghost use mathlib.Core.Logic.{_≢_};
 ghost use Prim.Native.Nat.{_≤_, _^_};
 ghost use lib.IntN.{pos, natAbs, _+ℤ_, _-ℤ_};
@@ -10,6 +11,7 @@ ghost use Rattle.eisenstein.specs.Values.{value, 𝟘, norm};
 ghost use Rattle.eisenstein.specs.Reduction.{better, best, corner, modQ};
 ghost use Rattle.eisenstein.specs.Calls.{answered};
 ghost use Rattle.remainders.specs.Calls.{reductionChecks, reduceQ};
+ghost use Rattle.remainders.specs.Conditions.{Differ};
 
 mod checks;
 
@@ -28,13 +30,18 @@ fn floor_quotient(x: i64, n: i64) -> i64
     if x < 0 { -1 - (-1 - x) / n } else { x / n }
 }
 
-// Whether (ra, rb) is better than (sa, sb), by the rule of remainders.
-fn better(ra: i64, rb: i64, sa: i64, sb: i64) -> bool
-    requires { ⌜ (natAbs ra ≤ 32767) × (natAbs rb ≤ 32767) × (natAbs sa ≤ 32767) × (natAbs sb ≤ 32767) ⌝ }
+// A value that may be the remainder, and how far its norm is above that of the first corner.
+struct Candidate {
+    a: i64,
+    b: i64,
+    excess: i64,
+}
+
+// Whether r = (ra, rb) is better than s = (sa, sb), by the rule of remainders. Their norms differ as m and n do.
+fn better(ra: i64, rb: i64, m: i64, sa: i64, sb: i64, n: i64) -> bool
+    requires { ⌜ Differ (value ra rb) m (value sa sb) n ⌝ }
     ensures { λ t. ⌜ t ≡ better (value ra rb) (value sa sb) ⌝ }
 {
-    let m = norm(ra as i16, rb as i16);
-    let n = norm(sa as i16, sb as i16);
     if m < n {
         return true;
     }
@@ -51,18 +58,28 @@ fn better(ra: i64, rb: i64, sa: i64, sb: i64) -> bool
 }
 
 // The better of two values.
-fn best(r: Wide, s: Wide) -> Wide
-    requires { ⌜ (natAbs (r .a) ≤ 32767) × (natAbs (r .b) ≤ 32767) × (natAbs (s .a) ≤ 32767) × (natAbs (s .b) ≤ 32767) ⌝ }
-    ensures { λ t. ⌜ value (t .a) (t .b) ≡ best (value (r .a) (r .b)) (value (s .a) (s .b)) ⌝ }
+fn best(r: Candidate, s: Candidate) -> Candidate
+    requires { ⌜ Differ (value (r .a) (r .b)) (r .excess) (value (s .a) (s .b)) (s .excess) ⌝ }
+    ensures { λ t. ⌜ (value (t .a) (t .b) ≡ best (value (r .a) (r .b)) (value (s .a) (s .b))) × (t .excess ≡ cond (better (value (s .a) (s .b)) (value (r .a) (r .b))) (s .excess) (r .excess)) ⌝ }
 {
     let ra = r.a;
     let rb = r.b;
+    let m = r.excess;
     let sa = s.a;
     let sb = s.b;
-    if better(sa, sb, ra, rb) {
-        return Wide { a: sa, b: sb };
+    let n = s.excess;
+    if better(sa, sb, n, ra, rb, m) {
+        return Candidate {
+            a: sa,
+            b: sb,
+            excess: n,
+        };
     }
-    Wide { a: ra, b: rb }
+    Candidate {
+        a: ra,
+        b: rb,
+        excess: m,
+    }
 }
 
 // (a, b) less q·(z, w), for q = (c, d) of the norm n and z, w the parts of (a, b)·conj(q) over n, rounded down. No part of q is above n, so its product with z or w is little above what was divided.
@@ -79,23 +96,42 @@ fn first_corner(a: i64, b: i64, c: i64, d: i64, n: i64) -> Wide
     }
 }
 
-// The best of the four corners, of which (u, v) is the first: the others are less q, qω and q(1 + ω).
-fn best_corner(u: i64, v: i64, c: i64, d: i64) -> Wide
-    requires { ⌜ (natAbs u ≤ 2 ^ 14) × (natAbs v ≤ 2 ^ 14) × (natAbs c ≤ 4095) × (natAbs d ≤ 4095) ⌝ }
+// The best of the four corners, of which (u, v) is the first: the others are less q, qω and q(1 + ω), for q = (c, d) of the norm n. The norm of a value less w is its own, less the trace of its product with conj(w), plus that of w: x and y are the traces for q and qω, and x + y is that for q(1 + ω).
+fn best_corner(u: i64, v: i64, c: i64, d: i64, n: i64) -> Wide
+    requires { ⌜ (natAbs u ≤ 2 ^ 14) × (natAbs v ≤ 2 ^ 14) × (natAbs c ≤ 4095) × (natAbs d ≤ 4095) × (n ≡ pos (norm (value c d))) ⌝ }
     ensures { λ r. ⌜ value (r .a) (r .b) ≡ best (best (value u v) (value (u -ℤ c) (v -ℤ d))) (best (value (u +ℤ d) ((v -ℤ c) +ℤ d)) (value ((u -ℤ c) +ℤ d) (v -ℤ c))) ⌝ }
 {
-    let lower = best(Wide { a: u, b: v }, Wide { a: u - c, b: v - d });
-    let upper = best(
-        Wide {
-            a: u + d,
-            b: v - c + d,
+    let e = c + c - d;
+    let x = u * e + v * (d + d - c);
+    let y = v * e - u * (c + d);
+    let lower = best(
+        Candidate {
+            a: u,
+            b: v,
+            excess: 0,
         },
-        Wide {
-            a: u - c + d,
-            b: v - c,
+        Candidate {
+            a: u - c,
+            b: v - d,
+            excess: n - x,
         },
     );
-    best(lower, upper)
+    let upper = best(
+        Candidate {
+            a: u + d,
+            b: v - c + d,
+            excess: n - y,
+        },
+        Candidate {
+            a: u - c + d,
+            b: v - c,
+            excess: n - x - y,
+        },
+    );
+    let r = best(lower, upper);
+    let a = r.a;
+    let b = r.b;
+    Wide { a, b }
 }
 
 // The remainder of (a, b) modulo (c, d).
@@ -107,7 +143,7 @@ fn remainder(a: i64, b: i64, c: i64, d: i64) -> Wide
     let first = first_corner(a, b, c, d, n);
     let u = first.a;
     let v = first.b;
-    best_corner(u, v, c, d)
+    best_corner(u, v, c, d, n)
 }
 
 // The same in 32 bits, where nothing is refused.

@@ -1,33 +1,55 @@
--- `as_good` meets its contract: each test is the contract's.
-use mathlib.Core.Path.{_≡_, refl, sym, _∙_, ap, ap₂}
-use mathlib.Core.Bool.{Bool, false}
-use lib.IntN.{ℤ, pos}
-use lib.Signed.{ltZ, leZ}
+-- `as_good` meets its contract.
+use mathlib.Core.Path.{_≡_, sym, _∙_, ap, ap₂, subst}
+use mathlib.Core.Bool.{Bool, not, _&&_}
+use mathlib.Core.List.{List, [], _∷_}
+use Prim.Native.Nat.{_≤_, _^_}
+use lib.IntN.{ℤ, natAbs, _-ℤ_, _+ℤ_}
+use lib.Signed.{ltZ}
+use mir.Syntax.{w64}
 use mir.Facts.{toZ-ofZ}
+use Rattle.integers.proofs.Ring.{Expr, var, _⊕_, _⊝_}
+use Rattle.integers.proofs.Machine.{Leaf, given, reading, stored, fits, exact}
+use Rattle.own_remainders.specs.Neighbours.{lead, within}
 use Rattle.own_remainders.proofs.as_good.Statement.{statement}
 use Rattle.own_remainders.proofs.as_good.Tie as tie
 
--- a test of x′ and y′ as the code has them, which are x and y
-read : {x y x′ y′ : ℤ} {v : Bool} → x′ ≡ x → y′ ≡ y → ltZ x′ y′ ≡ v → ltZ x y ≡ v
-read e f h = sym (ap₂ ltZ e f) ∙ h
+lead-is : (c : tie.After-lead) → c .lead .result ≡ lead (c .before .args .a) (c .before .args .b)
+lead-is c = c .lead .ensures .0 ∙ ap₂ lead (toZ-ofZ (c .before .fits .a)) (toZ-ofZ (c .before .fits .b))
 
-tn : (c : tie.Else1) → ltZ (c .before .args .t) (c .before .args .n) ≡ false
-tn c = read (toZ-ofZ (c .before .fits .t)) (toZ-ofZ (c .before .fits .n)) (c .if1 .left)
+abbrev ρ : tie.After-lead → List Leaf
+ρ c =
+    given (c .before .args .n) (2 ^ 26) (c .before .pre)
+    ∷ record {
+      code = c .lead .result;
+      meant = lead (c .before .args .a) (c .before .args .b);
+      bound = 1;
+      is = lead-is c;
+      small = subst (λ (z : ℤ). natAbs z ≤ 1) (lead-is c) (c .lead .ensures .1);
+    }
+    ∷ []
 
-nt : (c : tie.Else2) → ltZ (c .before .before .args .n) (c .before .before .args .t) ≡ false
-nt c = read (toZ-ofZ (c .before .before .fits .n)) (toZ-ofZ (c .before .before .fits .t)) (c .if2 .left)
+abbrev n : Expr
+n = var 0
 
-za : (c : tie.Else3) → ltZ (pos 0) (c .before .before .before .args .a) ≡ false
-za c = read {x = pos 0} refl (toZ-ofZ (c .before .before .before .fits .a)) (c .if3 .left)
+abbrev p : Expr
+p = var 1
+
+-- a test of t, as the code has it, against an end of the range
+tested : (c : tie.After-lead) (f : Expr) (z : ℤ) → reading w64 f (stored w64 (ρ c) f) ≡ z → ltZ (reading w64 (var 0) (c .before .args .t)) (reading w64 f (stored w64 (ρ c) f)) ≡ ltZ (c .before .args .t) z
+tested c f z e = ap₂ ltZ (toZ-ofZ (c .before .fits .t)) e
+
+low : (c : tie.After-lead) → reading w64 (p ⊝ n) (stored w64 (ρ c) (p ⊝ n)) ≡ lead (c .before .args .a) (c .before .args .b) -ℤ c .before .args .n
+low c = exact w64 (ρ c) (p ⊝ n) tt
+
+high : (c : tie.After-lead) → reading w64 (n ⊕ p) (stored w64 (ρ c) (n ⊕ p)) ≡ c .before .args .n +ℤ lead (c .before .args .a) (c .before .args .b)
+high c = exact w64 (ρ c) (n ⊕ p) tt
 
 pub as-good-spec : {M : Type 1} → statement M
 as-good-spec =
     tie.close
     (tie.spec
-    (λ c. let s = c .before in rw (read (toZ-ofZ (s .fits .t)) (toZ-ofZ (s .fits .n)) (c .if1 .taken)))
-    (λ c. let s = c .before .before in rw (tn (c .before), read (toZ-ofZ (s .fits .n)) (toZ-ofZ (s .fits .t)) (c .if2 .taken)))
-    (λ c. let s = c .before .before .before in rw (tn (c .before .before), nt (c .before), read {x = pos 0} refl (toZ-ofZ (s .fits .a)) (c .if3 .taken)))
-    (λ c. let s = c .before .before .before .before in rw (tn (c .before .before .before), nt (c .before .before), za (c .before), read {y = pos 0} (toZ-ofZ (s .fits .a)) refl (c .if4 .taken)))
-    (λ c.
-    let s = c .before .before .before .before in
-    rw (tn (c .before .before .before), nt (c .before .before), za (c .before), read {y = pos 0} (toZ-ofZ (s .fits .a)) refl (c .if4 .left)) (ap (leZ (pos 0)) (toZ-ofZ (s .fits .b)))))
+    (λ c κs. tt)
+    (λ c. fits w64 (ρ c) (p ⊝ n) tt)
+    (λ c. rw (sym (tested (c .before) (p ⊝ n) _ (low (c .before))) ∙ c .if1 .taken))
+    (λ c. fits w64 (ρ (c .before)) (n ⊕ p) tt)
+    (λ c. rw (sym (tested (c .before) (p ⊝ n) _ (low (c .before))) ∙ c .if1 .left) (tested (c .before) (n ⊕ p) _ (high (c .before)))))

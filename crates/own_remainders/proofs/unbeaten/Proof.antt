@@ -1,23 +1,23 @@
 -- `unbeaten` meets its contract: no step overflows, and each call tests the neighbour that is meant.
 use mathlib.Core.Path.{_≡_, sym, _∙_, ap, ap₂}
-use mathlib.Core.Bool.{Bool, false}
+use mathlib.Core.Bool.{Bool}
 use mathlib.Core.List.{List, [], _∷_}
-use Prim.Native.Nat.{ℕ, _^_, _<_}
+use Prim.Native.Nat.{ℕ, _^_, _≤_}
 use native.Mathlib.Omega.{arith}
 use borrow.Author.Needs.{needs}
 use borrow.Author.Tests.{not-true, not-false}
 use lib.Dec.{T, lit<}
-use lib.IntN.{ℤ, pos}
+use lib.IntN.{ℤ, pos, natAbs}
 use mir.Syntax.{w16, w64}
 use mir.Val.{SFits, toZ, ofZ}
 use mir.Facts.{toZ-ofZ}
 use Rattle.integers.proofs.Ring.{Expr, var, con, _⊕_, _⊝_, _⊗_, _⊜_, eval, holds, sound}
-use Rattle.integers.proofs.Machine.{Leaf, given, meanings, reading, stored, safe, fits, exact, narrow-fits}
-use Rattle.eisenstein.specs.Values.{ℤ[ω], value, norm, unit, same, _*ω_}
-use Rattle.eisenstein.specs.Reduction.{modQ}
+use Rattle.integers.proofs.Machine.{Leaf, given, meanings, reading, stored, safe, fits, exact, size-read, narrow-fits}
+use Rattle.eisenstein.specs.Values.{ℤ[ω], value, norm, unit, _*ω_}
 use Rattle.eisenstein.proofs.Solver.{Exprω, parts, conω, _⊠_}
-use Rattle.eisenstein.proofs.Norms.{norm-bound}
-use Rattle.own_remainders.proofs.Neighbours.{asGood, trace, traceᵉ, tested, beaten, unbeaten}
+use Rattle.eisenstein.proofs.Norms.{norm-bound, trace}
+use Rattle.own_remainders.specs.Neighbours.{lead, within}
+use Rattle.own_remainders.proofs.Neighbours.{traceᵉ, both-tested, beaten-0, beaten-2, decided-by-1}
 use Rattle.own_remainders.proofs.unbeaten.Statement.{statement}
 use Rattle.own_remainders.proofs.unbeaten.Tie as tie
 
@@ -95,20 +95,17 @@ abbrev read : tie.After-norm → Expr → ℤ
 read c f = reading w64 f (stored w64 (ρ c) f)
 
 abbrev test : tie.After-norm → ℕ → Bool
-test c k = tested (q (c .before)) (r (c .before)) k
+test c k = both-tested (q (c .before)) (r (c .before)) k
 
--- a call's test of t and (u, v), as the code has them, is that of neighbour k
-is-test : (c : tie.After-norm) (k : ℕ) (t u v : Expr) → T (safe w64 (ρ c) t) → T (safe w64 (ρ c) u) → T (safe w64 (ρ c) v) → T (holds (t ⊜ traceᵉ (parts a b) (w k))) → T (holds (u ⊜ w k .a)) → T (holds (v ⊜ w k .b)) → asGood (read c t) (read c n) (read c u) (read c v) ≡ test c k
+-- a call's test of t and (u, v), as the code has them, is that of r less and plus q times unit k
+is-test : (c : tie.After-norm) (k : ℕ) (t u v : Expr) → T (safe w64 (ρ c) t) → T (safe w64 (ρ c) u) → T (safe w64 (ρ c) v) → T (holds (t ⊜ traceᵉ (parts a b) (w k))) → T (holds (u ⊜ w k .a)) → T (holds (v ⊜ w k .b)) → within (read c t) (read c n) (lead (read c u) (read c v)) ≡ test c k
 unfolding _*ω_
 is-test c k t u v t-safe u-safe v-safe t-holds u-holds v-holds =
-    ap₂ (λ (y m : ℤ). asGood y m (read c u) (read c v)) (is t (traceᵉ (parts a b) (w k)) t-safe t-holds) (exact w64 (ρ c) n tt)
-    ∙ ap₂ (asGood (trace (r (c .before)) (q (c .before) *ω unit k)) (pos (norm (q (c .before))))) (is u (w k .a) u-safe u-holds) (is v (w k .b) v-safe v-holds)
+    ap₂ (λ (y m : ℤ). within y m (lead (read c u) (read c v))) (is t (traceᵉ (parts a b) (w k)) t-safe t-holds) (exact w64 (ρ c) n tt)
+    ∙ ap₂ (λ (a b : ℤ). within (trace (r (c .before)) (q (c .before) *ω unit k)) (pos (norm (q (c .before)))) (lead a b)) (is u (w k .a) u-safe u-holds) (is v (w k .b) v-safe v-holds)
   where
     is : (f g : Expr) → T (safe w64 (ρ c) f) → T (holds (f ⊜ g)) → read c f ≡ eval (meanings (ρ c)) g
     is f g s h = exact w64 (ρ c) f s ∙ sound (meanings (ρ c)) (f ⊜ g) h
-
-refused : (c : tie.After-norm) (k : ℕ) → k < 6 → test c k ≡ false → false ≡ same (modQ (q (c .before)) (r (c .before))) (r (c .before))
-refused c k h e = sym (beaten (q (c .before)) (r (c .before)) (c .before .pre .4) k h e)
 
 -- the place of `n`, from each place after it
 abbrev w₁ : tie.Else1 → tie.After-norm
@@ -117,38 +114,21 @@ w₁ c = c .before .before
 abbrev w₂ : tie.Else2 → tie.After-norm
 w₂ c = w₁ (c .before .before)
 
-abbrev w₃ : tie.Else3 → tie.After-norm
-w₃ c = w₂ (c .before .before)
-
-abbrev w₄ : tie.Else4 → tie.After-norm
-w₄ c = w₃ (c .before .before)
-
-abbrev w₅ : tie.Else5 → tie.After-norm
-w₅ c = w₄ (c .before .before)
+-- the norm, as each call is handed it
+n-small : (c : tie.After-norm) → natAbs (read c n) ≤ 2 ^ 26
+n-small c = size-read w64 (ρ c) n (2 ^ 26) tt tt
 
 test-0 : (c : tie.After-as-good) → c .as-good .result ≡ test (c .before) 0
 unfolding unit
 test-0 c = c .as-good .ensures ∙ is-test (c .before) 0 x c′ d tt tt tt tt tt tt
 
-test-3 : (c : tie.After-as-good2) → c .as-good2 .result ≡ test (w₁ (c .before)) 3
+test-2 : (c : tie.After-as-good2) → c .as-good2 .result ≡ test (w₁ (c .before)) 2
 unfolding unit
-test-3 c = c .as-good2 .ensures ∙ is-test (w₁ (c .before)) 3 (0′ ⊝ x) (0′ ⊝ c′) (0′ ⊝ d) tt tt tt tt tt tt
+test-2 c = c .as-good2 .ensures ∙ is-test (w₁ (c .before)) 2 y (0′ ⊝ d) (c′ ⊝ d) tt tt tt tt tt tt
 
-test-2 : (c : tie.After-as-good3) → c .as-good3 .result ≡ test (w₂ (c .before)) 2
+test-1 : (c : tie.After-as-good3) → c .as-good3 .result ≡ test (w₂ (c .before)) 1
 unfolding unit
-test-2 c = c .as-good3 .ensures ∙ is-test (w₂ (c .before)) 2 y (0′ ⊝ d) (c′ ⊝ d) tt tt tt tt tt tt
-
-test-5 : (c : tie.After-as-good4) → c .as-good4 .result ≡ test (w₃ (c .before)) 5
-unfolding unit
-test-5 c = c .as-good4 .ensures ∙ is-test (w₃ (c .before)) 5 (0′ ⊝ y) d (d ⊝ c′) tt tt tt tt tt tt
-
-test-1 : (c : tie.After-as-good5) → c .as-good5 .result ≡ test (w₄ (c .before)) 1
-unfolding unit
-test-1 c = c .as-good5 .ensures ∙ is-test (w₄ (c .before)) 1 (x ⊕ y) (c′ ⊝ d) c′ tt tt tt tt tt tt
-
-test-4 : (c : tie.After-as-good6) → c .as-good6 .result ≡ test (w₅ (c .before)) 4
-unfolding unit
-test-4 c = c .as-good6 .ensures ∙ is-test (w₅ (c .before)) 4 (0′ ⊝ x ⊝ y) (d ⊝ c′) (0′ ⊝ c′) tt tt tt tt tt tt
+test-1 c = c .as-good3 .ensures ∙ is-test (w₂ (c .before)) 1 (x ⊕ y) (c′ ⊝ d) c′ tt tt tt tt tt tt
 
 pub unbeaten-spec : {M : Type 1} → statement M
 unbeaten-spec =
@@ -169,42 +149,20 @@ unbeaten-spec =
     (λ c. fits w64 (ρ c) (c′ ⊕ d) tt)
     (λ c. fits w64 (ρ c) (a ⊗ (c′ ⊕ d)) tt)
     (λ c. fits w64 (ρ c) y tt)
-    (λ c κs. search needs)
-    (λ c. refused (c .before .before) 0 (omega arith) (sym (test-0 (c .before)) ∙ not-true _ (c .if1 .taken)))
-    (λ c. fits w64 (ρ (w₁ c)) (0′ ⊝ x) tt)
-    (λ c. fits w64 (ρ (w₁ c)) (0′ ⊝ c′) tt)
+    (λ c κs. n-small c)
+    (λ c. let s = c .before .before .before in sym (beaten-0 (q s) (r s) (s .pre .4) (sym (test-0 (c .before)) ∙ not-true _ (c .if1 .taken))))
     (λ c. fits w64 (ρ (w₁ c)) (0′ ⊝ d) tt)
-    (λ c κs. search needs)
-    (λ c. refused (w₁ (c .before .before)) 3 (omega arith) (sym (test-3 (c .before)) ∙ not-true _ (c .if2 .taken)))
-    (λ c. fits w64 (ρ (w₂ c)) (0′ ⊝ d) tt)
+    (λ c. fits w64 (ρ (w₁ c)) (c′ ⊝ d) tt)
+    (λ c κs. n-small (w₁ c))
+    (λ c. let s = w₁ (c .before .before) .before in sym (beaten-2 (q s) (r s) (s .pre .4) (sym (test-2 (c .before)) ∙ not-true _ (c .if2 .taken))))
+    (λ c. fits w64 (ρ (w₂ c)) (x ⊕ y) tt)
     (λ c. fits w64 (ρ (w₂ c)) (c′ ⊝ d) tt)
-    (λ c κs. search needs)
-    (λ c. refused (w₂ (c .before .before)) 2 (omega arith) (sym (test-2 (c .before)) ∙ not-true _ (c .if3 .taken)))
-    (λ c. fits w64 (ρ (w₃ c)) (0′ ⊝ y) tt)
-    (λ c. fits w64 (ρ (w₃ c)) (d ⊝ c′) tt)
-    (λ c κs. search needs)
-    (λ c. refused (w₃ (c .before .before)) 5 (omega arith) (sym (test-5 (c .before)) ∙ not-true _ (c .if4 .taken)))
-    (λ c. fits w64 (ρ (w₄ c)) (x ⊕ y) tt)
-    (λ c. fits w64 (ρ (w₄ c)) (c′ ⊝ d) tt)
-    (λ c κs. search needs)
-    (λ c. refused (w₄ (c .before .before)) 1 (omega arith) (sym (test-1 (c .before)) ∙ not-true _ (c .if5 .taken)))
-    (λ c. fits w64 (ρ (w₅ c)) (0′ ⊝ x) tt)
-    (λ c. fits w64 (ρ (w₅ c)) (0′ ⊝ x ⊝ y) tt)
-    (λ c. fits w64 (ρ (w₅ c)) (d ⊝ c′) tt)
-    (λ c. fits w64 (ρ (w₅ c)) (0′ ⊝ c′) tt)
-    (λ c κs. search needs)
-    (λ c. refused (w₅ (c .before .before)) 4 (omega arith) (sym (test-4 (c .before)) ∙ not-true _ (c .if6 .taken)))
-    (λ c₆.
-    let c₅ = c₆ .before .before in
-    let c₄ = c₅ .before .before in
-    let c₃ = c₄ .before .before in
-    let c₂ = c₃ .before .before in
+    (λ c κs. n-small (w₂ c))
+    (λ c.
+    let c₂ = c .before in
     let c₁ = c₂ .before .before in
-    let s = c₁ .before .before .before in
-    sym (unbeaten (q s) (r s) (s .pre .4)
+    let s = w₂ c₂ .before in
+    test-1 c
+    ∙ decided-by-1 (q s) (r s) (s .pre .4)
     (sym (test-0 (c₁ .before)) ∙ not-false _ (c₁ .if1 .left))
-    (sym (test-1 (c₅ .before)) ∙ not-false _ (c₅ .if5 .left))
-    (sym (test-2 (c₃ .before)) ∙ not-false _ (c₃ .if3 .left))
-    (sym (test-3 (c₂ .before)) ∙ not-false _ (c₂ .if2 .left))
-    (sym (test-4 (c₆ .before)) ∙ not-false _ (c₆ .if6 .left))
-    (sym (test-5 (c₄ .before)) ∙ not-false _ (c₄ .if4 .left)))))
+    (sym (test-2 (c₂ .before)) ∙ not-false _ (c₂ .if2 .left))))

@@ -1,23 +1,44 @@
 -- `best_corner` meets its contract: no step overflows, and each corner is what is meant.
-use mathlib.Core.Path.{_≡_, sym, _∙_, ap₂, subst}
+use mathlib.Core.Path.{_≡_, refl, _∙_, ap₂}
 use mathlib.Core.List.{List, [], _∷_}
-use Prim.Native.Nat.{_≤_, _^_}
-use lib.IntN.{natAbs, _+ℤ_, _-ℤ_}
+use Prim.Native.Nat.{_^_}
+use native.Mathlib.Omega.{arith}
+use borrow.Author.Needs.{needs}
+use lib.IntN.{ℤ, pos}
 use mir.Syntax.{w64}
-use Rattle.integers.proofs.Ring.{Expr, var, _⊕_, _⊝_}
-use Rattle.integers.proofs.Machine.{Leaf, given, fits, exact, size-read}
-use Rattle.eisenstein.specs.Values.{ℤ[ω], value}
+use Rattle.integers.proofs.Ring.{Expr, var, _⊕_, _⊝_, _⊗_}
+use Rattle.integers.proofs.Machine.{Leaf, given, reading, stored, fits, exact}
+use Rattle.eisenstein.specs.Values.{ℤ[ω], value, norm}
 use Rattle.eisenstein.specs.Reduction.{best}
-use Rattle.eisenstein.proofs.TieRule.{best-ind}
+use Rattle.eisenstein.proofs.Norms.{norm-bound}
+use Rattle.eisenstein.proofs.Pairs.{pair-read}
+use Rattle.remainders.proofs.Corners.{less10, less01, less11}
+use Rattle.remainders.proofs.Candidates.{Above, above-read, above-00, above-10, above-01, above-11, differ, picked}
 use Rattle.remainders.proofs.best_corner.Statement.{statement}
 use Rattle.remainders.proofs.best_corner.Tie as tie
 
+abbrev q : tie.Start → ℤ[ω]
+q s = value (s .args .c) (s .args .d)
+
+abbrev r : tie.Start → ℤ[ω]
+r s = value (s .args .u) (s .args .v)
+
+abbrev n-leaf : tie.Start → Leaf
+n-leaf s = record {
+  code = s .args .n;
+  meant = pos (norm (q s));
+  bound = 2 ^ 26;
+  is = s .pre .4;
+  small = omega (arith, norm-bound (q s) 4095 (s .pre .2) (s .pre .3));
+}
+
 abbrev ρ : tie.Start → List Leaf
-ρ c =
-    given (c .args .u) (2 ^ 14) (c .pre .0)
-    ∷ given (c .args .v) (2 ^ 14) (c .pre .1)
-    ∷ given (c .args .c) 4095 (c .pre .2)
-    ∷ given (c .args .d) 4095 (c .pre .3)
+ρ s =
+    given (s .args .u) (2 ^ 14) (s .pre .0)
+    ∷ given (s .args .v) (2 ^ 14) (s .pre .1)
+    ∷ given (s .args .c) 4095 (s .pre .2)
+    ∷ given (s .args .d) 4095 (s .pre .3)
+    ∷ n-leaf s
     ∷ []
 
 abbrev u : Expr
@@ -32,48 +53,84 @@ c′ = var 2
 abbrev d : Expr
 d = var 3
 
--- a value whose parts are within 32,767
-abbrev Small : ℤ[ω] → Type 0
-Small x = (natAbs (x .a) ≤ 32767) × (natAbs (x .b) ≤ 32767)
+abbrev n : Expr
+n = var 4
 
--- what the two inner calls return, and that it is small
-lower : (c : tie.After-best) → value (c .best .result .a) (c .best .result .b) ≡ best (value (c .before .args .u) (c .before .args .v)) (value (c .before .args .u -ℤ c .before .args .c) (c .before .args .v -ℤ c .before .args .d))
+abbrev e : Expr
+e = c′ ⊕ c′ ⊝ d
+
+abbrev x : Expr
+x = u ⊗ e ⊕ v ⊗ (d ⊕ d ⊝ c′)
+
+abbrev y : Expr
+y = v ⊗ e ⊝ u ⊗ (c′ ⊕ d)
+
+abbrev read : tie.Start → Expr → ℤ
+read s f = reading w64 f (stored w64 (ρ s) f)
+
+-- how far the norm of each corner is above that of the first one
+first : (s : tie.Start) → Above (norm (r s)) (value (read s u) (read s v)) (pos 0)
+first s = above-read (ap₂ value (exact w64 (ρ s) u tt) (exact w64 (ρ s) v tt)) refl (above-00 (r s) (q s))
+
+second : (s : tie.Start) → Above (norm (r s)) (value (read s (u ⊝ c′)) (read s (v ⊝ d))) (read s (n ⊝ x))
+second s =
+    above-read (ap₂ value (exact w64 (ρ s) (u ⊝ c′) tt) (exact w64 (ρ s) (v ⊝ d) tt)) (exact w64 (ρ s) (n ⊝ x) tt) (above-10 (r s) (q s))
+
+third : (s : tie.Start) → Above (norm (r s)) (value (read s (u ⊕ d)) (read s (v ⊝ c′ ⊕ d))) (read s (n ⊝ y))
+third s =
+    above-read (ap₂ value (exact w64 (ρ s) (u ⊕ d) tt) (exact w64 (ρ s) (v ⊝ c′ ⊕ d) tt)) (exact w64 (ρ s) (n ⊝ y) tt) (above-01 (r s) (q s))
+
+fourth : (s : tie.Start) → Above (norm (r s)) (value (read s (u ⊝ c′ ⊕ d)) (read s (v ⊝ c′))) (read s (n ⊝ x ⊝ y))
+fourth s =
+    above-read (ap₂ value (exact w64 (ρ s) (u ⊝ c′ ⊕ d) tt) (exact w64 (ρ s) (v ⊝ c′) tt)) (exact w64 (ρ s) (n ⊝ x ⊝ y) tt) (above-11 (r s) (q s))
+
+-- what the two inner calls return
+lower : (c : tie.After-best) → let s = c .before in value (c .best .result .a) (c .best .result .b) ≡ best (r s) (less10 (q s) (r s))
 lower c =
     let ρ′ = ρ (c .before) in
-    c .best .ensures ∙ ap₂ best (ap₂ value (exact w64 ρ′ u tt) (exact w64 ρ′ v tt)) (ap₂ value (exact w64 ρ′ (u ⊝ c′) tt) (exact w64 ρ′ (v ⊝ d) tt))
+    c .best .ensures .0 ∙ ap₂ best (ap₂ value (exact w64 ρ′ u tt) (exact w64 ρ′ v tt)) (ap₂ value (exact w64 ρ′ (u ⊝ c′) tt) (exact w64 ρ′ (v ⊝ d) tt))
 
-upper : (c : tie.After-best2) → value (c .best2 .result .a) (c .best2 .result .b) ≡ best (value (c .before .before .args .u +ℤ c .before .before .args .d) ((c .before .before .args .v -ℤ c .before .before .args .c) +ℤ c .before .before .args .d)) (value ((c .before .before .args .u -ℤ c .before .before .args .c) +ℤ c .before .before .args .d) (c .before .before .args .v -ℤ c .before .before .args .c))
+lower-above : (c : tie.After-best) → Above (norm (r (c .before))) (value (c .best .result .a) (c .best .result .b)) (c .best .result .excess)
+lower-above c = above-read (c .best .ensures .0) (c .best .ensures .1) (picked (Above (norm (r (c .before)))) (first (c .before)) (second (c .before)))
+
+upper : (c : tie.After-best2) → let s = c .before .before in value (c .best2 .result .a) (c .best2 .result .b) ≡ best (less01 (q s) (r s)) (less11 (q s) (r s))
 upper c =
     let ρ′ = ρ (c .before .before) in
-    c .best2 .ensures ∙ ap₂ best (ap₂ value (exact w64 ρ′ (u ⊕ d) tt) (exact w64 ρ′ (v ⊝ c′ ⊕ d) tt)) (ap₂ value (exact w64 ρ′ (u ⊝ c′ ⊕ d) tt) (exact w64 ρ′ (v ⊝ c′) tt))
+    c .best2 .ensures .0 ∙ ap₂ best (ap₂ value (exact w64 ρ′ (u ⊕ d) tt) (exact w64 ρ′ (v ⊝ c′ ⊕ d) tt)) (ap₂ value (exact w64 ρ′ (u ⊝ c′ ⊕ d) tt) (exact w64 ρ′ (v ⊝ c′) tt))
 
-small-lower : (c : tie.After-best) → Small (value (c .best .result .a) (c .best .result .b))
-small-lower c =
-    let ρ′ = ρ (c .before) in
-    subst Small (sym (c .best .ensures))
-    (best-ind Small (size-read w64 ρ′ u 32767 tt tt, size-read w64 ρ′ v 32767 tt tt)
-    (size-read w64 ρ′ (u ⊝ c′) 32767 tt tt, size-read w64 ρ′ (v ⊝ d) 32767 tt tt))
-
-small-upper : (c : tie.After-best2) → Small (value (c .best2 .result .a) (c .best2 .result .b))
-small-upper c =
-    let ρ′ = ρ (c .before .before) in
-    subst Small (sym (c .best2 .ensures))
-    (best-ind Small (size-read w64 ρ′ (u ⊕ d) 32767 tt tt, size-read w64 ρ′ (v ⊝ c′ ⊕ d) 32767 tt tt)
-    (size-read w64 ρ′ (u ⊝ c′ ⊕ d) 32767 tt tt, size-read w64 ρ′ (v ⊝ c′) 32767 tt tt))
+upper-above : (c : tie.After-best2) → Above (norm (r (c .before .before))) (value (c .best2 .result .a) (c .best2 .result .b)) (c .best2 .result .excess)
+upper-above c =
+    let s = c .before .before in
+    above-read (c .best2 .ensures .0) (c .best2 .ensures .1) (picked (Above (norm (r s))) (third s) (fourth s))
 
 pub best-corner-spec : {M : Type 1} → statement M
 best-corner-spec =
     tie.close
     (tie.spec
+    (λ c. fits w64 (ρ c) (c′ ⊕ c′) tt)
+    (λ c. fits w64 (ρ c) e tt)
+    (λ c. fits w64 (ρ c) (u ⊗ e) tt)
+    (λ c. fits w64 (ρ c) (d ⊕ d) tt)
+    (λ c. fits w64 (ρ c) (d ⊕ d ⊝ c′) tt)
+    (λ c. fits w64 (ρ c) (v ⊗ (d ⊕ d ⊝ c′)) tt)
+    (λ c. fits w64 (ρ c) x tt)
+    (λ c. fits w64 (ρ c) (v ⊗ e) tt)
+    (λ c. fits w64 (ρ c) (c′ ⊕ d) tt)
+    (λ c. fits w64 (ρ c) (u ⊗ (c′ ⊕ d)) tt)
+    (λ c. fits w64 (ρ c) y tt)
     (λ c. fits w64 (ρ c) (u ⊝ c′) tt)
     (λ c. fits w64 (ρ c) (v ⊝ d) tt)
-    (λ c κs. (size-read w64 (ρ c) u 32767 tt tt, size-read w64 (ρ c) v 32767 tt tt, size-read w64 (ρ c) (u ⊝ c′) 32767 tt tt, size-read w64 (ρ c) (v ⊝ d) 32767 tt tt))
+    (λ c. fits w64 (ρ c) (n ⊝ x) tt)
+    (λ c κs. differ (first c) (second c))
     (λ c. fits w64 (ρ (c .before)) (u ⊕ d) tt)
     (λ c. fits w64 (ρ (c .before)) (v ⊝ c′) tt)
     (λ c. fits w64 (ρ (c .before)) (v ⊝ c′ ⊕ d) tt)
+    (λ c. fits w64 (ρ (c .before)) (n ⊝ y) tt)
     (λ c. fits w64 (ρ (c .before)) (u ⊝ c′) tt)
     (λ c. fits w64 (ρ (c .before)) (u ⊝ c′ ⊕ d) tt)
     (λ c. fits w64 (ρ (c .before)) (v ⊝ c′) tt)
-    (λ c κs. let ρ′ = ρ (c .before) in (size-read w64 ρ′ (u ⊕ d) 32767 tt tt, size-read w64 ρ′ (v ⊝ c′ ⊕ d) 32767 tt tt, size-read w64 ρ′ (u ⊝ c′ ⊕ d) 32767 tt tt, size-read w64 ρ′ (v ⊝ c′) 32767 tt tt))
-    (λ c κs. let l = small-lower (c .before) in let m = small-upper c in (l .0, l .1, m .0, m .1))
-    (λ c. c .best3 .ensures ∙ ap₂ best (lower (c .before .before)) (upper (c .before))))
+    (λ c. fits w64 (ρ (c .before)) (n ⊝ x) tt)
+    (λ c. fits w64 (ρ (c .before)) (n ⊝ x ⊝ y) tt)
+    (λ c κs. differ (third (c .before)) (fourth (c .before)))
+    (λ c κs. differ (lower-above (c .before)) (upper-above c))
+    (λ c. pair-read {w = w64} (search needs) (search needs) ∙ c .before .before .best3 .ensures .0 ∙ ap₂ best (lower (c .before .before .before .before)) (upper (c .before .before .before))))

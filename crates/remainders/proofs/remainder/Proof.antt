@@ -80,5 +80,5 @@ remainder-spec =
       (λ e. s .pre .4 (sym (q-read s) ∙ e)),
       n-read c,
     ))
-    (λ c κs. search needs)
+    (λ c κs. (search needs, search needs, search needs, search needs, n-read (c .before .before .before)))
     returns)
