@@ -1,10 +1,12 @@
 -- What convolution's checks leave, where all are passed, and how it is handed on.
-use mathlib.Core.Path.{_≡_, sym, subst}
+use mathlib.Core.Path.{_≡_, sym, _∙_, ap, subst}
 use mathlib.Core.Bool.{_&&_}
 use mathlib.Core.List.{List, _++_}
 use Prim.Native.Nat.{ℕ, _*_}
+use native.Mathlib.Omega.{arith}
 use lib.IntN.{ℤ}
 use lib.ListN.{length, take}
+use lib.Seq.{take-all}
 use mir.Facts.{and-yes}
 use mir.Syntax.{w32}
 use mir.Val.{SFits, toZ, ofZ}
@@ -16,7 +18,7 @@ use Rattle.eisenstein.proofs.Pairs.{pair-read}
 use Rattle.parameters.specs.Sets.{ParameterSet, parameterChecks}
 use Rattle.parameters.proofs.AcceptedParameters.{accepted-parameters, modulus-nonzero}
 use Rattle.polynomials.specs.Polynomials.{coefficient, reducedQ}
-use Rattle.arrays.specs.Arrays.{full}
+use Rattle.arrays.specs.Arrays.{full, Small}
 use Rattle.arrays.proofs.Sizes.{reducedQ-small}
 use Rattle.convolution_refusals.specs.Checks.{convolvingChecks}
 use Rattle.convolution.specs.Conditions.{Convolvable, Convolved}
@@ -49,6 +51,25 @@ module _ (n : ℕ) (x y out : List ℤ) {c d : ℤ} (f : SFits w32 c) (g : SFits
   pub convolved-handed : Convolved n (value (toZ w32 (ofZ w32 c)) (toZ w32 (ofZ w32 d))) x y out → Convolved n (value c d) x y out
   convolved-handed = subst (λ (q : ℤ[ω]). Convolved n q x y out) (pair-read f g)
 
+-- copies of the operands, of which the first one's array takes the result
+module _ (n : ℕ) (q : ℤ[ω]) {x y x′ y′ : List ℤ} (out : List ℤ) (e : x′ ≡ x) (f : y′ ≡ y) where
+  pub convolvable-copies : Convolvable n q x y out → Convolvable n q x′ y′ x′
+  convolvable-copies k = record {
+    N-small = k .N-small;
+    modulus = k .modulus;
+    x-long = ap length e ∙ k .x-long;
+    y-long = ap length f ∙ k .y-long;
+    out-long = ap length e ∙ k .x-long;
+    x-small = subst Small (sym e) (k .x-small);
+    y-small = subst Small (sym f) (k .y-small);
+  }
+
+  pub convolved-copies : Convolved n q x′ y′ out → Convolved n q x y out
+  convolved-copies k = subst (λ (l : List ℤ). Convolved n q l y out) e (subst (λ (l : List ℤ). Convolved n q x′ l out) f k)
+
 -- the start of an array that x was copied to
 pub copied : (n : ℕ) {x : List ℤ} (l : List ℤ) → length x ≡ 2 * n → take (length x) l ≡ x → take (2 * n) l ≡ x
 copied n {x} l e = subst (λ (m : ℕ). take m l ≡ x) e
+
+pub copied-whole : (n : ℕ) {x : List ℤ} (l : List ℤ) → length x ≡ 2 * n → length l ≡ 2 * n → take (length x) l ≡ x → l ≡ x
+copied-whole n {x} l e f h = sym (take-all (length x) l (omega arith)) ∙ h

@@ -35,7 +35,3 @@ Reducible v = (natAbs (v .a) ≤ 2 ^ 40) × (natAbs (v .b) ≤ 2 ^ 40)
 -- two arrays of n coefficients, and room for their product and the smaller ones that it is formed of: 4n numbers for the product, and behind it what that of the sums needs
 abbrev pub Factors : (n : ℕ) (x y w : List ℤ) → Type 0
 Factors n x y w = (2 ≤ n) × (n ≤ 1024) × (length x ≡ 2 * n) × (length y ≡ 2 * n) × (17 * n ≤ 2 * length w) × (length w ≤ 2 ^ 16)
-
--- room for copies of two arrays of n coefficients, and for their product
-abbrev pub Rooms : (n : ℕ) (x y w : List ℤ) → Type 0
-Rooms n x y w = (2 ≤ n) × (2 * n ≤ length x) × (2 * n ≤ length y) × (17 * n ≤ 2 * length w) × (length w ≤ 2 ^ 16)

@@ -9,7 +9,7 @@ ghost use Rattle.polynomials.specs.Polynomials.{coefficient, array, convolution
 ghost use Rattle.arrays.specs.Arrays.{Small};
 ghost use Rattle.arrays.specs.Conditions.{Modulus};
 ghost use Rattle.halving.specs.Products.{wrapped};
-ghost use Rattle.convolution.specs.Conditions.{Convolvable, Convolved, Reducible, Rooms};
+ghost use Rattle.convolution.specs.Conditions.{Convolvable, Convolved, Factors, Reducible};
 use crate::direct::product_at;
 use crate::halves::multiply;
 use eisenstein::Wide;
@@ -101,32 +101,26 @@ fn copy(from: &[i32], to: &mut [i32])
     }
 }
 
-// x × y reduced modulo q, to out, with room for a copy of each and for their product.
-fn convolve_in(
-    x: &[i32],
-    y: &[i32],
-    n: usize,
-    c: i32,
-    d: i32,
-    xs: &mut [i32],
-    ys: &mut [i32],
-    w: &mut [i64],
-    out: &mut [i32],
-)
-    requires { ⌜ Convolvable n (value c d) (now x) (now y) (now out) × Rooms n (now xs) (now ys) (now w) ⌝ }
-    ensures { λ _. ⌜ Convolved n (value c d) (now (x .entry)) (now (y .entry)) (now (out .exit)) ⌝ }
+// x × y reduced modulo q, to x, with room for the product.
+fn convolve_in(x: &mut [i32], y: &mut [i32], n: usize, c: i32, d: i32, w: &mut [i64])
+    requires { ⌜ Convolvable n (value c d) (now x) (now y) (now x) × Factors n (now x) (now y) (now w) ⌝ }
+    ensures { λ _. ⌜ Convolved n (value c d) (now (x .entry)) (now (y .entry)) (now (x .exit)) ⌝ }
 {
-    copy(x, xs);
-    copy(y, ys);
-    multiply(&mut xs[..2 * n], &mut ys[..2 * n], n, w);
-    reduce_wrapped(w, n, c, d, out);
+    multiply(x, y, n, w);
+    reduce_wrapped(w, n, c, d, x);
 }
 
-// Room for the product at the largest N, 68 KiB. For N up to 128 and up to 32 there are smaller rooms, which are cleared sooner.
+// Room for the product at the largest N, 68 KiB. For smaller N there are smaller rooms, which are cleared sooner.
 fn large_room() -> [i64; 8704]
     ensures { λ r. ⌜ length r ≡ 8704 ⌝ }
 {
     [0i64; 8704]
+}
+
+fn half_room() -> [i64; 4352]
+    ensures { λ r. ⌜ length r ≡ 4352 ⌝ }
+{
+    [0i64; 4352]
 }
 
 fn medium_room() -> [i64; 1088]
@@ -141,34 +135,78 @@ fn small_room() -> [i64; 272]
     [0i64; 272]
 }
 
-fn convolve_in_large(x: &[i32], y: &[i32], n: usize, c: i32, d: i32, out: &mut [i32])
+fn convolve_in_large(x: &mut [i32], y: &mut [i32], n: usize, c: i32, d: i32)
+    requires { ⌜ (2 ≤ n) × Convolvable n (value c d) (now x) (now y) (now x) ⌝ }
+    ensures { λ _. ⌜ Convolved n (value c d) (now (x .entry)) (now (y .entry)) (now (x .exit)) ⌝ }
+{
+    let mut w = large_room();
+    convolve_in(x, y, n, c, d, &mut w);
+}
+
+fn convolve_in_half(x: &mut [i32], y: &mut [i32], n: usize, c: i32, d: i32)
+    requires { ⌜ (2 ≤ n) × (n ≤ 512) × Convolvable n (value c d) (now x) (now y) (now x) ⌝ }
+    ensures { λ _. ⌜ Convolved n (value c d) (now (x .entry)) (now (y .entry)) (now (x .exit)) ⌝ }
+{
+    let mut w = half_room();
+    convolve_in(x, y, n, c, d, &mut w);
+}
+
+fn convolve_in_medium(x: &mut [i32], y: &mut [i32], n: usize, c: i32, d: i32)
+    requires { ⌜ (2 ≤ n) × (n ≤ 128) × Convolvable n (value c d) (now x) (now y) (now x) ⌝ }
+    ensures { λ _. ⌜ Convolved n (value c d) (now (x .entry)) (now (y .entry)) (now (x .exit)) ⌝ }
+{
+    let mut w = medium_room();
+    convolve_in(x, y, n, c, d, &mut w);
+}
+
+fn convolve_in_small(x: &mut [i32], y: &mut [i32], n: usize, c: i32, d: i32)
+    requires { ⌜ (2 ≤ n) × (n ≤ 32) × Convolvable n (value c d) (now x) (now y) (now x) ⌝ }
+    ensures { λ _. ⌜ Convolved n (value c d) (now (x .entry)) (now (y .entry)) (now (x .exit)) ⌝ }
+{
+    let mut w = small_room();
+    convolve_in(x, y, n, c, d, &mut w);
+}
+
+// The same, with room for N. Its stack is taken only where it is called: LLVM keeps it apart from its callers, since it is long and there are two of them.
+fn convolve_copies(x: &mut [i32], y: &mut [i32], n: usize, c: i32, d: i32)
+    requires { ⌜ (2 ≤ n) × Convolvable n (value c d) (now x) (now y) (now x) ⌝ }
+    ensures { λ _. ⌜ Convolved n (value c d) (now (x .entry)) (now (y .entry)) (now (x .exit)) ⌝ }
+{
+    if n <= 32 {
+        convolve_in_small(x, y, n, c, d);
+        return;
+    }
+    if n <= 128 {
+        convolve_in_medium(x, y, n, c, d);
+        return;
+    }
+    if n <= 512 {
+        convolve_in_half(x, y, n, c, d);
+        return;
+    }
+    convolve_in_large(x, y, n, c, d);
+}
+
+// x × y reduced modulo q, to out, by copies: that of x in out, which is written last, and that of y in room of its own.
+fn convolve_many(x: &[i32], y: &[i32], n: usize, c: i32, d: i32, out: &mut [i32])
     requires { ⌜ (2 ≤ n) × Convolvable n (value c d) (now x) (now y) (now out) ⌝ }
     ensures { λ _. ⌜ Convolved n (value c d) (now (x .entry)) (now (y .entry)) (now (out .exit)) ⌝ }
 {
-    let mut xs = arrays::zeros();
     let mut ys = arrays::zeros();
-    let mut w = large_room();
-    convolve_in(x, y, n, c, d, &mut xs, &mut ys, &mut w, out);
+    copy(x, out);
+    copy(y, &mut ys);
+    convolve_copies(out, &mut ys[..2 * n], n, c, d);
 }
 
-fn convolve_in_medium(x: &[i32], y: &[i32], n: usize, c: i32, d: i32, out: &mut [i32])
+// The same for N up to 128, with less room.
+fn convolve_some(x: &[i32], y: &[i32], n: usize, c: i32, d: i32, out: &mut [i32])
     requires { ⌜ (2 ≤ n) × (n ≤ 128) × Convolvable n (value c d) (now x) (now y) (now out) ⌝ }
     ensures { λ _. ⌜ Convolved n (value c d) (now (x .entry)) (now (y .entry)) (now (out .exit)) ⌝ }
 {
-    let mut xs = arrays::few_zeros();
     let mut ys = arrays::few_zeros();
-    let mut w = medium_room();
-    convolve_in(x, y, n, c, d, &mut xs, &mut ys, &mut w, out);
-}
-
-fn convolve_in_small(x: &[i32], y: &[i32], n: usize, c: i32, d: i32, out: &mut [i32])
-    requires { ⌜ (2 ≤ n) × (n ≤ 32) × Convolvable n (value c d) (now x) (now y) (now out) ⌝ }
-    ensures { λ _. ⌜ Convolved n (value c d) (now (x .entry)) (now (y .entry)) (now (out .exit)) ⌝ }
-{
-    let mut xs = arrays::few_zeros();
-    let mut ys = arrays::few_zeros();
-    let mut w = small_room();
-    convolve_in(x, y, n, c, d, &mut xs, &mut ys, &mut w, out);
+    copy(x, out);
+    copy(y, &mut ys);
+    convolve_copies(out, &mut ys[..2 * n], n, c, d);
 }
 
 // x × y reduced modulo q = (c, d), to out.
@@ -180,13 +218,9 @@ pub(crate) fn convolve_q(x: &[i32], y: &[i32], n: usize, c: i32, d: i32, out: &m
         convolve_few(x, y, n, c, d, out);
         return;
     }
-    if n <= 32 {
-        convolve_in_small(x, y, n, c, d, out);
-        return;
-    }
     if n <= 128 {
-        convolve_in_medium(x, y, n, c, d, out);
+        convolve_some(x, y, n, c, d, out);
         return;
     }
-    convolve_in_large(x, y, n, c, d, out);
+    convolve_many(x, y, n, c, d, out);
 }

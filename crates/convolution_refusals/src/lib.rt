@@ -6,21 +6,39 @@ ghost use Rattle.refusals.specs.Outcomes.{outcome};
 ghost use Rattle.refusals.specs.Numbers.{answered};
 ghost use Rattle.eisenstein.specs.Values.{value};
 ghost use Rattle.parameters.specs.Sets.{setOf, parameterChecks};
+ghost use Rattle.arrays.specs.Conditions.{Modulus};
 ghost use Rattle.convolution_refusals.specs.Checks.{convolvingChecks};
-use array_sets::ArraySet;
-use array_sets::check_array;
 use parameters::Parameters;
 use refusals::Answer;
 use refusals::Refusal;
+use set_tests::reduced_modulo_q;
+
+// 7 for all lengths, then 12 for both operands, where the parameter set is accepted.
+fn operand_refusal(x: &[i32], y: &[i32], room: usize, n: u32, c: i32, d: i32) -> Answer
+    requires { ⌜ Modulus (value c d) ⌝ }
+    ensures { λ r. ⌜ answered r ≡ outcome (convolvingChecks n (value c d) (now (x .entry)) (now (y .entry)) room) tt ⌝ }
+{
+    if !arrays::three_full(n, x.len(), y.len(), room) {
+        return Answer::Refused(Refusal::WrongLength);
+    }
+    if !reduced_modulo_q(x, n, c, d) {
+        return Answer::Refused(Refusal::NotReducedModuloQ);
+    }
+    if !reduced_modulo_q(y, n, c, d) {
+        return Answer::Refused(Refusal::NotReducedModuloQ);
+    }
+    Answer::Done
+}
 
 // Those of the parameter set, 7 for all lengths, then 12 for both operands.
 pub fn convolving_refusal(p: Parameters, x: &[i32], y: &[i32], room: usize) -> Answer
     ensures { λ r. ⌜ answered r ≡ outcome (parameterChecks (setOf p) ++ convolvingChecks (p .n) (value (p .c) (p .d)) (now (x .entry)) (now (y .entry)) room) tt ⌝ }
 {
     let n = p.n;
-    let lengths = arrays::three_full(n, x.len(), y.len(), room);
-    p.check()
-        .and(Refusal::WrongLength.when(!lengths))
-        .and(check_array(p, ArraySet::ReducedModuloQ, x))
-        .and(check_array(p, ArraySet::ReducedModuloQ, y))
+    let c = p.c;
+    let d = p.d;
+    match p.check() {
+        Answer::Done => operand_refusal(x, y, room, n, c, d),
+        Answer::Refused(refusal) => Answer::Refused(refusal),
+    }
 }

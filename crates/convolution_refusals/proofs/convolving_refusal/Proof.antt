@@ -1,55 +1,46 @@
--- `convolving_refusal` meets its contract: each test is the definition's, in its order.
-use mathlib.Core.Path.{_≡_, _∙_}
-use mathlib.Core.Bool.{Bool, not, _&&_}
-use mathlib.Core.List.{[], _∷_}
-use Prim.Native.Nat.{_*_}
+-- `convolving_refusal` meets its contract: the parameter set's refusal comes first, and where there is none the operands' one follows.
+use mathlib.Core.Path.{_≡_, sym, _∙_, ap}
 use borrow.Author.Needs.{needs}
-use lib.Dec.{T}
-use lib.ListN.{length}
-use Rattle.integers.proofs.Tests.{are-equal-3}
-use Rattle.refusals.specs.Outcomes.{_if_}
-use Rattle.refusals.proofs.Checks.{both-tests, same-first}
-use Rattle.parameters.specs.Sets.{ParameterSet, setOf, parameterChecks}
-use Rattle.polynomials.specs.Polynomials.{coefficient, reducedQ}
-use Rattle.arrays.specs.Arrays.{full}
-use Rattle.array_sets.specs.declared.ArraySet.the-variants.{ReducedModuloQ}
-use Rattle.array_sets.proofs.ArrayChecks.{own, and-lengths, and-array}
+use mir.Syntax.{w32}
+use mir.Val.{toZ, ofZ}
+use Rattle.refusals.specs.Outcomes.{outcome, Passes}
+use Rattle.refusals.specs.Numbers.{answered}
+use Rattle.refusals.proofs.Checks.{passed-all, refused-first}
+use Rattle.eisenstein.specs.Values.{ℤ[ω], value}
+use Rattle.eisenstein.proofs.Pairs.{pair-read}
+use Rattle.parameters.specs.Sets.{setOf, parameterChecks}
+use Rattle.parameters.proofs.AcceptedParameters.{accepted-parameters, modulus-nonzero}
+use Rattle.arrays.specs.Conditions.{Modulus}
+use Rattle.arrays.proofs.Sizes.{modulus-handed}
 use Rattle.convolution_refusals.specs.Checks.{convolvingChecks}
 use Rattle.convolution_refusals.proofs.convolving_refusal.Statement.{statement}
 use Rattle.convolution_refusals.proofs.convolving_refusal.Tie as tie
 
-abbrev P : tie.Start → ParameterSet
-P s = setOf (s .args .p)
+-- the parameter set is accepted
+accepted : (c : tie.After-enum-told) → Passes (parameterChecks (setOf (c .before .before .before .before .before .args .p)))
+accepted c = sym (c .before .before .check .ensures) ∙ ap answered (c .enum-told .given .1)
 
-abbrev lengths : tie.Start → Bool
-lengths s = full (P s .N) (length (s .args .x .now)) && (full (P s .N) (length (s .args .y .now)) && full (P s .N) (s .args .room))
+modulus : (c : tie.After-enum-told) → let p = c .before .before .before .before .before .args .p in Modulus (value (p .c) (p .d))
+modulus c =
+    let p = setOf (c .before .before .before .before .before .args .p) in
+    let a = accepted-parameters p (accepted c) in
+    record { in-range = a .q-small; not-zero = modulus-nonzero p a }
 
-asked : (s : tie.Start) → T (lengths s) → (length (s .args .x .now) ≡ 2 * P s .N) × (length (s .args .y .now) ≡ 2 * P s .N) × (s .args .room ≡ 2 * P s .N)
-asked s t = are-equal-3 _ _ _ _ _ _ t
+-- the modulus as it is handed on
+read-q : (c : tie.After-enum-told) → let p = c .before .before .before .before .before .args .p in value (toZ w32 (ofZ w32 (p .c))) (toZ w32 (ofZ w32 (p .d))) ≡ value (p .c) (p .d)
+read-q c = pair-read (search needs) (search needs)
 
 pub convolving-refusal-spec : {M : Type 1} → statement M
-unfolding convolvingChecks
 convolving-refusal-spec =
     tie.close
     (tie.spec
-    (λ c κs. search needs)
-    (λ c κs. search needs)
-    (λ c κs. search needs)
-    (λ c κs. search needs)
-    (λ c κs. search needs)
-    (λ c κs. search needs)
-    (λ c κs. search needs)
-    (λ c κs. search needs)
+    (λ c κs. tt)
+    (λ c. search needs)
+    (λ c κs. modulus-handed (search needs) (search needs) (modulus c))
+    (λ c. search needs)
     (λ c.
-    let cx = c .before .before in
-    let c7 = cx .before .before in
-    let s = c7 .before .before .before .before in
-    let p = P s in
-    let t = lengths s in
-    let x = s .args .x .now in
-    let y = s .args .y .now in
-    let o7 = c7 .and .ensures ∙ and-lengths p t (c7 .before .before .before .three-full .ensures) (c7 .before .before .check .ensures) (c7 .before .when .ensures) in
-    let ox = cx .and2 .ensures ∙ and-array p t ReducedModuloQ x (λ h. asked s h .0) [] o7 (cx .before .check-array .ensures) in
-    c .and3 .ensures
-    ∙ and-array p t ReducedModuloQ y (λ h. asked s h .1) (own p ReducedModuloQ x ∷ []) ox (c .before .check-array2 .ensures)
-    ∙ same-first (parameterChecks p) _ _ tt tt (λ _. same-first (7 if not t ∷ []) _ _ tt tt (λ _. both-tests 12 (reducedQ (p .N) (p .q) (coefficient x)) (reducedQ (p .N) (p .q) (coefficient y)) tt))))
+    let s = c .before .before .before .before .before .before in
+    c .operand-refusal .ensures
+    ∙ ap (λ (q : ℤ[ω]). outcome (convolvingChecks (s .args .p .n) q (s .args .x .now) (s .args .y .now) (s .args .room)) (tt {0})) (read-q (c .before))
+    ∙ sym (passed-all (parameterChecks (setOf (s .args .p))) _ tt (accepted (c .before))))
+    (λ c. sym (refused-first _ _ tt _ (sym (c .before .before .before .check .ensures) ∙ ap answered (c .before .refusal .given .1)))))
