@@ -1,6 +1,6 @@
 """The benchmark's tables and plot, from the records of speed.c, libntru.c and bundles.c.
 
-Usage: report.py --machine TEXT --table N... --convolutions N... --bundles N... -- DATA
+Usage: report.py --machine TEXT --table N... --convolutions N... --every N... --bundles N... -- DATA
 
 Prints the tables, puts them between the marks of docs/PERFORMANCE.md, and writes docs/performance.svg.
 """
@@ -76,6 +76,16 @@ def convolution(times, sizes):
     return table(head, rows)
 
 
+def least_gain(times, sizes):
+    """Where among the sizes, which are every N of a range, the direct sum comes nearest to ours."""
+    direct, ours = (times["convolution", who] for who in ("direct", "ours"))
+    n = min(sizes, key=lambda n: direct[n] / ours[n])
+    return (
+        f"Of every N from {min(sizes)} to {max(sizes)}, it is least at N = {n}: "
+        f"{ratio(direct[n], ours[n])} times as fast as the direct sum in C.\n"
+    )
+
+
 def doubling(times, sizes):
     """How many times the cost of N that of 2N is, wherever both are among the sizes."""
     rows = []
@@ -116,10 +126,11 @@ def libntru_note(times, sizes):
     return ""
 
 
-def measured(times, sizes, convolution_sizes, bundle_sizes, machine):
+def measured(times, sizes, convolution_sizes, every_size, bundle_sizes, machine):
     return (
         f"Measured on {machine}.\n\nSealing and opening:\n\n{sealing_and_opening(times, sizes)}"
         f"{libntru_note(times, sizes)}\nConvolution:\n\n{convolution(times, convolution_sizes)}"
+        f"\n{least_gain(times, every_size)}"
         f"\nConvolution, how many times the cost when N doubles:\n\n{doubling(times, convolution_sizes)}"
         f"\nf × e modulo q:\n\n{f_times_e(times, convolution_sizes)}"
         f"\nA full bundle:\n\n{full_bundles(times, bundle_sizes)}"
@@ -222,12 +233,14 @@ def main():
     parser.add_argument("--machine", required=True)
     parser.add_argument("--table", type=int, nargs="+", required=True)
     parser.add_argument("--convolutions", type=int, nargs="+", required=True)
+    parser.add_argument("--every", type=int, nargs="+", required=True)
     parser.add_argument("--bundles", type=int, nargs="+", required=True)
     parser.add_argument("data", type=pathlib.Path)
     arguments = parser.parse_args()
 
     times = read_records(arguments.data)
-    report = measured(times, arguments.table, arguments.convolutions, arguments.bundles, arguments.machine)
+    sizes = (arguments.table, arguments.convolutions, arguments.every, arguments.bundles)
+    report = measured(times, *sizes, arguments.machine)
     print(report, end="")
     put_between_marks(DOCS / "PERFORMANCE.md", report)
     (DOCS / "performance.svg").write_text(plot(times))

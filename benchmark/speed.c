@@ -1,8 +1,9 @@
-// Measures the library's calls beside C, at each N that is given: sealing and opening, or convolution and the product
-// f × e, which is the first of an opening.
+// Measures the library's calls beside C, at each N that is given: sealing and opening, convolution and the product
+// f × e, which is the first of an opening, or convolution beside the direct sum alone.
 //
 // Usage: speed sealing N...
 //        speed convolution N...
+//        speed direct N...
 // Each record of the output is a line of N, the call, who does it and its best time in microseconds, with tabs between.
 // The status is 1 if a call is refused or two outputs differ.
 #include <stdint.h>
@@ -189,6 +190,11 @@ static void measure_convolution(uint32_t n) {
     measure("f × e", multiplying_f, 3, ETRU_ARRAY_NUMBERS(n) * sizeof(int32_t));
 }
 
+static void measure_direct(uint32_t n) {
+    static const struct contender convolving[] = {{"ours", convolve_ours}, {"direct", convolve_direct}};
+    measure("convolution", convolving, 2, ETRU_ARRAY_NUMBERS(n) * sizeof(int32_t));
+}
+
 int main(int argument_count, char **arguments) {
     const char *which = argument_count > 1 ? arguments[1] : "";
     void (*measure_calls)(uint32_t n);
@@ -196,8 +202,10 @@ int main(int argument_count, char **arguments) {
         measure_calls = measure_sealing;
     } else if (strcmp(which, "convolution") == 0) {
         measure_calls = measure_convolution;
+    } else if (strcmp(which, "direct") == 0) {
+        measure_calls = measure_direct;
     } else {
-        fprintf(stderr, "speed: the first argument is neither sealing nor convolution\n");
+        fprintf(stderr, "speed: the first argument is none of sealing, convolution and direct\n");
         return 1;
     }
     for (int k = 2; k < argument_count; k++) {
