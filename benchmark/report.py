@@ -78,10 +78,10 @@ def convolution(times, sizes):
 
 def least_gain(times, sizes):
     """Where among the sizes, which are every N of a range, the direct sum comes nearest to ours."""
-    direct, ours = (times["convolution", who] for who in ("direct", "ours"))
+    direct, ours = (times["each convolution", who] for who in ("direct", "ours"))
     n = min(sizes, key=lambda n: direct[n] / ours[n])
     return (
-        f"Of every N from {min(sizes)} to {max(sizes)}, it is least at N = {n}: "
+        f"Of all N from {min(sizes)} to {max(sizes)} the gain is least at N = {n}, where etru_convolve is "
         f"{ratio(direct[n], ours[n])} times as fast as the direct sum in C.\n"
     )
 
@@ -126,11 +126,11 @@ def libntru_note(times, sizes):
     return ""
 
 
-def measured(times, sizes, convolution_sizes, every_size, bundle_sizes, machine):
+def measured(times, sizes, convolution_sizes, every_n, bundle_sizes, machine):
     return (
         f"Measured on {machine}.\n\nSealing and opening:\n\n{sealing_and_opening(times, sizes)}"
         f"{libntru_note(times, sizes)}\nConvolution:\n\n{convolution(times, convolution_sizes)}"
-        f"\n{least_gain(times, every_size)}"
+        f"\n{least_gain(times, every_n)}"
         f"\nConvolution, how many times the cost when N doubles:\n\n{doubling(times, convolution_sizes)}"
         f"\nf × e modulo q:\n\n{f_times_e(times, convolution_sizes)}"
         f"\nA full bundle:\n\n{full_bundles(times, bundle_sizes)}"

@@ -1,5 +1,5 @@
-// Measures the library's calls beside C, at each N that is given: sealing and opening, convolution and the product
-// f × e, which is the first of an opening, or convolution beside the direct sum alone.
+// Measures the library's calls beside C, at each N that is given: sealing and opening; or convolution and the product
+// f × e, which is the first of an opening; or convolution beside the direct sum alone.
 //
 // Usage: speed sealing N...
 //        speed convolution N...
@@ -192,7 +192,7 @@ static void measure_convolution(uint32_t n) {
 
 static void measure_direct(uint32_t n) {
     static const struct contender convolving[] = {{"ours", convolve_ours}, {"direct", convolve_direct}};
-    measure("convolution", convolving, 2, ETRU_ARRAY_NUMBERS(n) * sizeof(int32_t));
+    measure("each convolution", convolving, 2, ETRU_ARRAY_NUMBERS(n) * sizeof(int32_t));
 }
 
 int main(int argument_count, char **arguments) {

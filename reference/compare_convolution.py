@@ -430,7 +430,7 @@ def steps_of(rng, case):
 
 
 def refusals(results, library, rng):
-    """Each refusal and each two that can apply at once, on both sides of 16, 32 and 128, and at both ends of N."""
+    """Each refusal and each two that can apply at once, on both sides of 16, 32, 128 and 512, and at both ends of N."""
     numbers = set()
     # t is the largest that the bound allows, and below N - 1
     for n, q, s in [
@@ -441,6 +441,8 @@ def refusals(results, library, rng):
         (33, (0, -27), 3),
         (128, (-105, 0), 24),
         (129, (77, -14), 18),
+        (512, (500, 1), 90),
+        (513, (-333, 222), 111),
         (1024, (1365, -1365), 300),
     ]:
         p = reference.Parameters(n, q, s, isqrt((reference.norm(q) - 1) // 4) - 2 * s)

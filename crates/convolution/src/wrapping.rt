@@ -110,84 +110,84 @@ fn convolve_in(x: &mut [i32], y: &mut [i32], n: usize, c: i32, d: i32, w: &mut [
     reduce_wrapped(w, n, c, d, x);
 }
 
-// Room for the product at the largest N, 68 KiB. For smaller N there are smaller rooms, which are cleared sooner.
-fn large_room() -> [i64; 8704]
+// Room for the product at N up to 1,024, 512, 128 and 32, 17N/2 numbers: 68 KiB, and less for smaller N, which is cleared sooner.
+fn room_for_1024() -> [i64; 8704]
     ensures { λ r. ⌜ length r ≡ 8704 ⌝ }
 {
     [0i64; 8704]
 }
 
-fn half_room() -> [i64; 4352]
+fn room_for_512() -> [i64; 4352]
     ensures { λ r. ⌜ length r ≡ 4352 ⌝ }
 {
     [0i64; 4352]
 }
 
-fn medium_room() -> [i64; 1088]
+fn room_for_128() -> [i64; 1088]
     ensures { λ r. ⌜ length r ≡ 1088 ⌝ }
 {
     [0i64; 1088]
 }
 
-fn small_room() -> [i64; 272]
+fn room_for_32() -> [i64; 272]
     ensures { λ r. ⌜ length r ≡ 272 ⌝ }
 {
     [0i64; 272]
 }
 
-fn convolve_in_large(x: &mut [i32], y: &mut [i32], n: usize, c: i32, d: i32)
+fn convolve_up_to_1024(x: &mut [i32], y: &mut [i32], n: usize, c: i32, d: i32)
     requires { ⌜ (2 ≤ n) × Convolvable n (value c d) (now x) (now y) (now x) ⌝ }
     ensures { λ _. ⌜ Convolved n (value c d) (now (x .entry)) (now (y .entry)) (now (x .exit)) ⌝ }
 {
-    let mut w = large_room();
+    let mut w = room_for_1024();
     convolve_in(x, y, n, c, d, &mut w);
 }
 
-fn convolve_in_half(x: &mut [i32], y: &mut [i32], n: usize, c: i32, d: i32)
+fn convolve_up_to_512(x: &mut [i32], y: &mut [i32], n: usize, c: i32, d: i32)
     requires { ⌜ (2 ≤ n) × (n ≤ 512) × Convolvable n (value c d) (now x) (now y) (now x) ⌝ }
     ensures { λ _. ⌜ Convolved n (value c d) (now (x .entry)) (now (y .entry)) (now (x .exit)) ⌝ }
 {
-    let mut w = half_room();
+    let mut w = room_for_512();
     convolve_in(x, y, n, c, d, &mut w);
 }
 
-fn convolve_in_medium(x: &mut [i32], y: &mut [i32], n: usize, c: i32, d: i32)
+fn convolve_up_to_128(x: &mut [i32], y: &mut [i32], n: usize, c: i32, d: i32)
     requires { ⌜ (2 ≤ n) × (n ≤ 128) × Convolvable n (value c d) (now x) (now y) (now x) ⌝ }
     ensures { λ _. ⌜ Convolved n (value c d) (now (x .entry)) (now (y .entry)) (now (x .exit)) ⌝ }
 {
-    let mut w = medium_room();
+    let mut w = room_for_128();
     convolve_in(x, y, n, c, d, &mut w);
 }
 
-fn convolve_in_small(x: &mut [i32], y: &mut [i32], n: usize, c: i32, d: i32)
+fn convolve_up_to_32(x: &mut [i32], y: &mut [i32], n: usize, c: i32, d: i32)
     requires { ⌜ (2 ≤ n) × (n ≤ 32) × Convolvable n (value c d) (now x) (now y) (now x) ⌝ }
     ensures { λ _. ⌜ Convolved n (value c d) (now (x .entry)) (now (y .entry)) (now (x .exit)) ⌝ }
 {
-    let mut w = small_room();
+    let mut w = room_for_32();
     convolve_in(x, y, n, c, d, &mut w);
 }
 
-// The same, with room for N. Its stack is taken only where it is called: LLVM keeps it apart from its callers, since it is long and there are two of them.
+// x × y reduced modulo q, to x, in the smallest room that N needs. Its stack is taken only where it is called: LLVM keeps it apart from its callers, since it is long and there are two of them.
 fn convolve_copies(x: &mut [i32], y: &mut [i32], n: usize, c: i32, d: i32)
     requires { ⌜ (2 ≤ n) × Convolvable n (value c d) (now x) (now y) (now x) ⌝ }
     ensures { λ _. ⌜ Convolved n (value c d) (now (x .entry)) (now (y .entry)) (now (x .exit)) ⌝ }
 {
     if n <= 32 {
-        convolve_in_small(x, y, n, c, d);
+        convolve_up_to_32(x, y, n, c, d);
         return;
     }
     if n <= 128 {
-        convolve_in_medium(x, y, n, c, d);
+        convolve_up_to_128(x, y, n, c, d);
         return;
     }
     if n <= 512 {
-        convolve_in_half(x, y, n, c, d);
+        convolve_up_to_512(x, y, n, c, d);
         return;
     }
-    convolve_in_large(x, y, n, c, d);
+    convolve_up_to_1024(x, y, n, c, d);
 }
 
-// x × y reduced modulo q, to out, by copies: that of x in out, which is written last, and that of y in room of its own.
+// x × y reduced modulo q, to out, by copies: that of x in out, where the result takes its place, and that of y in room of its own.
 fn convolve_many(x: &[i32], y: &[i32], n: usize, c: i32, d: i32, out: &mut [i32])
     requires { ⌜ (2 ≤ n) × Convolvable n (value c d) (now x) (now y) (now out) ⌝ }
     ensures { λ _. ⌜ Convolved n (value c d) (now (x .entry)) (now (y .entry)) (now (out .exit)) ⌝ }

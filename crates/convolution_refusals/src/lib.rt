@@ -13,7 +13,7 @@ use refusals::Answer;
 use refusals::Refusal;
 use set_tests::reduced_modulo_q;
 
-// 7 for all lengths, then 12 for both operands, where the parameter set is accepted.
+// 7 for all lengths, then 12 for both operands, with a modulus in range and not zero.
 fn operand_refusal(x: &[i32], y: &[i32], room: usize, n: u32, c: i32, d: i32) -> Answer
     requires { ⌜ Modulus (value c d) ⌝ }
     ensures { λ r. ⌜ answered r ≡ outcome (convolvingChecks n (value c d) (now (x .entry)) (now (y .entry)) room) tt ⌝ }

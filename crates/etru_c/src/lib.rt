@@ -1,7 +1,7 @@
 // The interface for C. Each function returns the documents' refusal number, 0 if nothing is refused, and writes to its outputs only then.
 // Only `etru_next_entry` refuses nothing, and returns whether there was an entry.
 // It decides nothing: each function hands its arguments on, and `include/etru.h` is its manual.
-// At every N `etru_open_files` takes at most 72 KiB of stack, `etru_seal_places` 36 KiB, `etru_open`, `etru_open_short`, `etru_open_entry`, `etru_check_key` and `etru_spread_places` 28 KiB,
+// At every N `etru_convolve` takes at most 100 KiB of stack, `etru_open_files` 72 KiB, `etru_seal_places` 36 KiB, `etru_open`, `etru_open_short`, `etru_open_entry`, `etru_check_key` and `etru_spread_places` 28 KiB,
 // `etru_seal`, `etru_seal_short`, `etru_read`, `etru_read_bundle`, `etru_begin_bundle` and `etru_write_bundle` 12 KiB, and each other function 1 KiB.
 ghost use mathlib.Core.Path.{_≡_};
 ghost use mathlib.Core.Bool.{cond};

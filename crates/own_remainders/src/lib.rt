@@ -13,7 +13,7 @@ use eisenstein::is_zero;
 use eisenstein::modulus_out_of_range;
 use eisenstein::norm;
 
-// Of r and r − w, with w = (a, b) and where their norms are equal: 1 if r is the better one, else 0.
+// Of r and r − w, for w = (a, b) other than zero and where their norms are equal: 1 if r is the better one, else 0.
 fn lead(a: i64, b: i64) -> i64
     ensures { λ r. ⌜ (r ≡ lead a b) × (natAbs r ≤ 1) ⌝ }
 {
@@ -29,7 +29,7 @@ fn lead(a: i64, b: i64) -> i64
     0
 }
 
-// Whether r is as good as r − w and as r + w, where w = (a, b) has the norm n and r·conj(w) the trace t: the norm of r − w is that of r, less t, plus n, and the norm of r + w is that of r, plus t, plus n.
+// Whether r is as good as r − w and as r + w, where w = (a, b) is not zero and has the norm n, and r·conj(w) has the trace t: the norm of r − w is that of r, less t, plus n, and the norm of r + w is that of r, plus t, plus n.
 fn as_good(t: i64, n: i64, a: i64, b: i64) -> bool
     requires { ⌜ natAbs n ≤ 2 ^ 26 ⌝ }
     ensures { λ r. ⌜ r ≡ within t n (lead a b) ⌝ }

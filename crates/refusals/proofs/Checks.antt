@@ -217,9 +217,3 @@ same-first cs ds ds′ a a′ h = go (outcome cs (tt {0})) refl
 -- where a check applies, neither what stands after it nor the value plays a part
 pub ends-at : {A : Type 0} (cs : List Check) (n : ℕ) (t : Bool) (ds : List Check) (a a′ : A) → t ≡ false → outcome (cs ++ n if not t ∷ ds) a ≡ outcome (cs ++ n if true ∷ []) a′
 ends-at cs n t ds a a′ e = same-first cs _ _ a a′ (λ passes. fails-refused n t ds a e ∙ sym (refused-by n [] a′ refl))
-
--- a check of two tests is a check of each
-pub both-tests : {A : Type 0} (n : ℕ) (s t : Bool) (a : A) → outcome (n if not s ∷ n if not t ∷ []) a ≡ outcome (n if not (s && t) ∷ []) a
-unfolding outcome
-both-tests n true t a = refl
-both-tests n false t a = refl

@@ -1,4 +1,4 @@
--- Candidates for the remainder: their norms are compared by how far each is above that of the first corner.
+-- Candidates for the remainder: their norms are compared by their excess over that of the first corner.
 use mathlib.Core.Path.{_≡_, sym, _∙_, ap, ap₂}
 use mathlib.Core.Bool.{Bool, true, false, cond}
 use Prim.Native.Nat.{ℕ, _+_, _≤_, _<_}
@@ -33,22 +33,22 @@ differ-read e f g h d = record {
   sums = ap₂ (λ (r : ℤ[ω]) (n : ℤ). pos (norm r) +ℤ n) e h ∙ d .sums ∙ sym (ap₂ (λ (s : ℤ[ω]) (m : ℤ). pos (norm s) +ℤ m) g f);
 }
 
--- a norm that is m above k
-pub record Above (k : ℕ) (r : ℤ[ω]) (m : ℤ) : Type 0 where
+-- the norm of r is k plus m
+pub record Excess (k : ℕ) (r : ℤ[ω]) (m : ℤ) : Type 0 where
   pub norm-is : pos (norm r) ≡ pos k +ℤ m
 
 -- the same of what is read of r and m
-pub above-read : {k : ℕ} {r r′ : ℤ[ω]} {m m′ : ℤ} → r′ ≡ r → m′ ≡ m → Above k r m → Above k r′ m′
-above-read {k} e f h = record { norm-is = ap (λ (r : ℤ[ω]). pos (norm r)) e ∙ h .norm-is ∙ ap (λ (m : ℤ). pos k +ℤ m) (sym f) }
+pub excess-read : {k : ℕ} {r r′ : ℤ[ω]} {m m′ : ℤ} → r′ ≡ r → m′ ≡ m → Excess k r m → Excess k r′ m′
+excess-read {k} e f h = record { norm-is = ap (λ (r : ℤ[ω]). pos (norm r)) e ∙ h .norm-is ∙ ap (λ (m : ℤ). pos k +ℤ m) (sym f) }
 
--- norms above the same number differ as what they are above it does
-pub differ : {k : ℕ} {r s : ℤ[ω]} {m n : ℤ} → Above k r m → Above k s n → Differ r m s n
+-- norms differ as their excesses over the same number do
+pub differ : {k : ℕ} {r s : ℤ[ω]} {m n : ℤ} → Excess k r m → Excess k s n → Differ r m s n
 differ {k} {r} {s} {m} {n} h l = record { sums = ap (λ (z : ℤ). z +ℤ n) (h .norm-is) ∙ swap (pos k) m n ∙ ap (λ (z : ℤ). z +ℤ m) (sym (l .norm-is)) }
   where
     swap : (k m n : ℤ) → (k +ℤ m) +ℤ n ≡ (k +ℤ n) +ℤ m
     swap = ring 3 (λ k m n. k ⊕ m ⊕ n ⊜ k ⊕ n ⊕ m) tt
 
--- ---- how far the norm of each corner is above that of the first one, r
+-- ---- the excess of each corner over the first one, r
 
 -- the trace of r·conj(qω)
 abbrev pub trace-ω : (r q : ℤ[ω]) → ℤ
@@ -64,24 +64,24 @@ abbrev traceωᵉ : (a b c d : Expr) → Expr
 traceωᵉ a b c d = b ⊗ (c ⊕ c ⊝ d) ⊝ a ⊗ (c ⊕ d)
 
 module _ (r q : ℤ[ω]) where
-  above-by : (s : ℤ[ω]) (f : ℤ → ℤ) → form s ≡ form r +ℤ f (form q) → Above (norm r) s (f (pos (norm q)))
-  above-by s f e = record { norm-is = sym (norm-form s) ∙ e ∙ ap₂ (λ (m n : ℤ). m +ℤ f n) (norm-form r) (norm-form q) }
+  excess-by : (s : ℤ[ω]) (f : ℤ → ℤ) → form s ≡ form r +ℤ f (form q) → Excess (norm r) s (f (pos (norm q)))
+  excess-by s f e = record { norm-is = sym (norm-form s) ∙ e ∙ ap₂ (λ (m n : ℤ). m +ℤ f n) (norm-form r) (norm-form q) }
 
-  pub above-00 : Above (norm r) r (pos 0)
-  above-00 = record { norm-is = ring 1 (λ n. n ⊜ n ⊕ con (pos 0)) tt (pos (norm r)) }
+  pub excess-00 : Excess (norm r) r (pos 0)
+  excess-00 = record { norm-is = ring 1 (λ n. n ⊜ n ⊕ con (pos 0)) tt (pos (norm r)) }
 
-  pub above-10 : Above (norm r) (less10 q r) (pos (norm q) -ℤ trace r q)
+  pub excess-10 : Excess (norm r) (less10 q r) (pos (norm q) -ℤ trace r q)
   unfolding _-ω_
-  above-10 = record { norm-is = norm-difference r q }
+  excess-10 = record { norm-is = norm-difference r q }
 
-  pub above-01 : Above (norm r) (less01 q r) (pos (norm q) -ℤ trace-ω r q)
-  above-01 =
-      above-by (less01 q r) (λ n. n -ℤ trace-ω r q)
+  pub excess-01 : Excess (norm r) (less01 q r) (pos (norm q) -ℤ trace-ω r q)
+  excess-01 =
+      excess-by (less01 q r) (λ n. n -ℤ trace-ω r q)
       (ring 4 (λ a b c d. formᵉ (a ⊕ d) (b ⊝ c ⊕ d) ⊜ formᵉ a b ⊕ (formᵉ c d ⊝ traceωᵉ a b c d)) tt (r .a) (r .b) (q .a) (q .b))
 
-  pub above-11 : Above (norm r) (less11 q r) ((pos (norm q) -ℤ trace r q) -ℤ trace-ω r q)
-  above-11 =
-      above-by (less11 q r) (λ n. (n -ℤ trace r q) -ℤ trace-ω r q)
+  pub excess-11 : Excess (norm r) (less11 q r) ((pos (norm q) -ℤ trace r q) -ℤ trace-ω r q)
+  excess-11 =
+      excess-by (less11 q r) (λ n. (n -ℤ trace r q) -ℤ trace-ω r q)
       (ring 4 (λ a b c d. formᵉ (a ⊝ c ⊕ d) (b ⊝ c) ⊜ formᵉ a b ⊕ (formᵉ c d ⊝ traceᵉ a b c d ⊝ traceωᵉ a b c d)) tt (r .a) (r .b) (q .a) (q .b))
 
 -- what holds of two candidates holds of the better one

@@ -30,14 +30,14 @@ fn floor_quotient(x: i64, n: i64) -> i64
     if x < 0 { -1 - (-1 - x) / n } else { x / n }
 }
 
-// A value that may be the remainder, and how far its norm is above that of the first corner.
+// A value that may be the remainder, and its norm less that of the first corner.
 struct Candidate {
     a: i64,
     b: i64,
     excess: i64,
 }
 
-// Whether r = (ra, rb) is better than s = (sa, sb), by the rule of remainders. Their norms differ as m and n do.
+// Whether r = (ra, rb) is better than s = (sa, sb), by the rule of remainders. Their norms differ as m and n, their excesses, do.
 fn better(ra: i64, rb: i64, m: i64, sa: i64, sb: i64, n: i64) -> bool
     requires { ⌜ Differ (value ra rb) m (value sa sb) n ⌝ }
     ensures { λ t. ⌜ t ≡ better (value ra rb) (value sa sb) ⌝ }
@@ -96,7 +96,7 @@ fn first_corner(a: i64, b: i64, c: i64, d: i64, n: i64) -> Wide
     }
 }
 
-// The best of the four corners, of which (u, v) is the first: the others are less q, qω and q(1 + ω), for q = (c, d) of the norm n. The norm of a value less w is its own, less the trace of its product with conj(w), plus that of w: x and y are the traces for q and qω, and x + y is that for q(1 + ω).
+// The best of the four corners, of which (u, v) is the first: the others are less q, qω and q(1 + ω), for q = (c, d) of the norm n. The norm of r − w is the norm of r, plus that of w, less the trace of r·conj(w): x and y are the traces for q and qω, and x + y is that for q(1 + ω).
 fn best_corner(u: i64, v: i64, c: i64, d: i64, n: i64) -> Wide
     requires { ⌜ (natAbs u ≤ 2 ^ 14) × (natAbs v ≤ 2 ^ 14) × (natAbs c ≤ 4095) × (natAbs d ≤ 4095) × (n ≡ pos (norm (value c d))) ⌝ }
     ensures { λ r. ⌜ value (r .a) (r .b) ≡ best (best (value u v) (value (u -ℤ c) (v -ℤ d))) (best (value (u +ℤ d) ((v -ℤ c) +ℤ d)) (value ((u -ℤ c) +ℤ d) (v -ℤ c))) ⌝ }

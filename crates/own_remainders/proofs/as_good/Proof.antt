@@ -1,6 +1,5 @@
 -- `as_good` meets its contract.
-use mathlib.Core.Path.{_≡_, sym, _∙_, ap, ap₂, subst}
-use mathlib.Core.Bool.{Bool, not, _&&_}
+use mathlib.Core.Path.{_≡_, sym, _∙_, ap₂, subst}
 use mathlib.Core.List.{List, [], _∷_}
 use Prim.Native.Nat.{_≤_, _^_}
 use lib.IntN.{ℤ, natAbs, _-ℤ_, _+ℤ_}
@@ -9,7 +8,7 @@ use mir.Syntax.{w64}
 use mir.Facts.{toZ-ofZ}
 use Rattle.integers.proofs.Ring.{Expr, var, _⊕_, _⊝_}
 use Rattle.integers.proofs.Machine.{Leaf, given, reading, stored, fits, exact}
-use Rattle.own_remainders.specs.Neighbours.{lead, within}
+use Rattle.own_remainders.specs.Neighbours.{lead}
 use Rattle.own_remainders.proofs.as_good.Statement.{statement}
 use Rattle.own_remainders.proofs.as_good.Tie as tie
 

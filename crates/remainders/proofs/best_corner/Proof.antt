@@ -13,7 +13,7 @@ use Rattle.eisenstein.specs.Reduction.{best}
 use Rattle.eisenstein.proofs.Norms.{norm-bound}
 use Rattle.eisenstein.proofs.Pairs.{pair-read}
 use Rattle.remainders.proofs.Corners.{less10, less01, less11}
-use Rattle.remainders.proofs.Candidates.{Above, above-read, above-00, above-10, above-01, above-11, differ, picked}
+use Rattle.remainders.proofs.Candidates.{Excess, excess-read, excess-00, excess-10, excess-01, excess-11, differ, picked}
 use Rattle.remainders.proofs.best_corner.Statement.{statement}
 use Rattle.remainders.proofs.best_corner.Tie as tie
 
@@ -68,21 +68,21 @@ y = v ⊗ e ⊝ u ⊗ (c′ ⊕ d)
 abbrev read : tie.Start → Expr → ℤ
 read s f = reading w64 f (stored w64 (ρ s) f)
 
--- how far the norm of each corner is above that of the first one
-first : (s : tie.Start) → Above (norm (r s)) (value (read s u) (read s v)) (pos 0)
-first s = above-read (ap₂ value (exact w64 (ρ s) u tt) (exact w64 (ρ s) v tt)) refl (above-00 (r s) (q s))
+-- the excess of each corner over the first one
+first : (s : tie.Start) → Excess (norm (r s)) (value (read s u) (read s v)) (pos 0)
+first s = excess-read (ap₂ value (exact w64 (ρ s) u tt) (exact w64 (ρ s) v tt)) refl (excess-00 (r s) (q s))
 
-second : (s : tie.Start) → Above (norm (r s)) (value (read s (u ⊝ c′)) (read s (v ⊝ d))) (read s (n ⊝ x))
+second : (s : tie.Start) → Excess (norm (r s)) (value (read s (u ⊝ c′)) (read s (v ⊝ d))) (read s (n ⊝ x))
 second s =
-    above-read (ap₂ value (exact w64 (ρ s) (u ⊝ c′) tt) (exact w64 (ρ s) (v ⊝ d) tt)) (exact w64 (ρ s) (n ⊝ x) tt) (above-10 (r s) (q s))
+    excess-read (ap₂ value (exact w64 (ρ s) (u ⊝ c′) tt) (exact w64 (ρ s) (v ⊝ d) tt)) (exact w64 (ρ s) (n ⊝ x) tt) (excess-10 (r s) (q s))
 
-third : (s : tie.Start) → Above (norm (r s)) (value (read s (u ⊕ d)) (read s (v ⊝ c′ ⊕ d))) (read s (n ⊝ y))
+third : (s : tie.Start) → Excess (norm (r s)) (value (read s (u ⊕ d)) (read s (v ⊝ c′ ⊕ d))) (read s (n ⊝ y))
 third s =
-    above-read (ap₂ value (exact w64 (ρ s) (u ⊕ d) tt) (exact w64 (ρ s) (v ⊝ c′ ⊕ d) tt)) (exact w64 (ρ s) (n ⊝ y) tt) (above-01 (r s) (q s))
+    excess-read (ap₂ value (exact w64 (ρ s) (u ⊕ d) tt) (exact w64 (ρ s) (v ⊝ c′ ⊕ d) tt)) (exact w64 (ρ s) (n ⊝ y) tt) (excess-01 (r s) (q s))
 
-fourth : (s : tie.Start) → Above (norm (r s)) (value (read s (u ⊝ c′ ⊕ d)) (read s (v ⊝ c′))) (read s (n ⊝ x ⊝ y))
+fourth : (s : tie.Start) → Excess (norm (r s)) (value (read s (u ⊝ c′ ⊕ d)) (read s (v ⊝ c′))) (read s (n ⊝ x ⊝ y))
 fourth s =
-    above-read (ap₂ value (exact w64 (ρ s) (u ⊝ c′ ⊕ d) tt) (exact w64 (ρ s) (v ⊝ c′) tt)) (exact w64 (ρ s) (n ⊝ x ⊝ y) tt) (above-11 (r s) (q s))
+    excess-read (ap₂ value (exact w64 (ρ s) (u ⊝ c′ ⊕ d) tt) (exact w64 (ρ s) (v ⊝ c′) tt)) (exact w64 (ρ s) (n ⊝ x ⊝ y) tt) (excess-11 (r s) (q s))
 
 -- what the two inner calls return
 lower : (c : tie.After-best) → let s = c .before in value (c .best .result .a) (c .best .result .b) ≡ best (r s) (less10 (q s) (r s))
@@ -90,18 +90,18 @@ lower c =
     let ρ′ = ρ (c .before) in
     c .best .ensures .0 ∙ ap₂ best (ap₂ value (exact w64 ρ′ u tt) (exact w64 ρ′ v tt)) (ap₂ value (exact w64 ρ′ (u ⊝ c′) tt) (exact w64 ρ′ (v ⊝ d) tt))
 
-lower-above : (c : tie.After-best) → Above (norm (r (c .before))) (value (c .best .result .a) (c .best .result .b)) (c .best .result .excess)
-lower-above c = above-read (c .best .ensures .0) (c .best .ensures .1) (picked (Above (norm (r (c .before)))) (first (c .before)) (second (c .before)))
+lower-excess : (c : tie.After-best) → Excess (norm (r (c .before))) (value (c .best .result .a) (c .best .result .b)) (c .best .result .excess)
+lower-excess c = excess-read (c .best .ensures .0) (c .best .ensures .1) (picked (Excess (norm (r (c .before)))) (first (c .before)) (second (c .before)))
 
 upper : (c : tie.After-best2) → let s = c .before .before in value (c .best2 .result .a) (c .best2 .result .b) ≡ best (less01 (q s) (r s)) (less11 (q s) (r s))
 upper c =
     let ρ′ = ρ (c .before .before) in
     c .best2 .ensures .0 ∙ ap₂ best (ap₂ value (exact w64 ρ′ (u ⊕ d) tt) (exact w64 ρ′ (v ⊝ c′ ⊕ d) tt)) (ap₂ value (exact w64 ρ′ (u ⊝ c′ ⊕ d) tt) (exact w64 ρ′ (v ⊝ c′) tt))
 
-upper-above : (c : tie.After-best2) → Above (norm (r (c .before .before))) (value (c .best2 .result .a) (c .best2 .result .b)) (c .best2 .result .excess)
-upper-above c =
+upper-excess : (c : tie.After-best2) → Excess (norm (r (c .before .before))) (value (c .best2 .result .a) (c .best2 .result .b)) (c .best2 .result .excess)
+upper-excess c =
     let s = c .before .before in
-    above-read (c .best2 .ensures .0) (c .best2 .ensures .1) (picked (Above (norm (r s))) (third s) (fourth s))
+    excess-read (c .best2 .ensures .0) (c .best2 .ensures .1) (picked (Excess (norm (r s))) (third s) (fourth s))
 
 pub best-corner-spec : {M : Type 1} → statement M
 best-corner-spec =
@@ -132,5 +132,5 @@ best-corner-spec =
     (λ c. fits w64 (ρ (c .before)) (n ⊝ x) tt)
     (λ c. fits w64 (ρ (c .before)) (n ⊝ x ⊝ y) tt)
     (λ c κs. differ (third (c .before)) (fourth (c .before)))
-    (λ c κs. differ (lower-above (c .before)) (upper-above c))
+    (λ c κs. differ (lower-excess (c .before)) (upper-excess c))
     (λ c. pair-read {w = w64} (search needs) (search needs) ∙ c .before .before .best3 .ensures .0 ∙ ap₂ best (lower (c .before .before .before .before)) (upper (c .before .before .before))))
