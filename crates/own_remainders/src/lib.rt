@@ -29,7 +29,8 @@ fn lead(a: i64, b: i64) -> i64
     0
 }
 
-// Whether r is as good as r − w and as r + w, where w = (a, b) is not zero and has the norm n, and r·conj(w) has the trace t: the norm of r − w is that of r, less t, plus n, and the norm of r + w is that of r, plus t, plus n.
+// Whether r is as good as r − w and as r + w, where w = (a, b) is not zero and has the norm n, and r·conj(w) has the trace t.
+// The norm of r − w is that of r, less t, plus n, and the norm of r + w is that of r, plus t, plus n.
 fn as_good(t: i64, n: i64, a: i64, b: i64) -> bool
     requires { ⌜ natAbs n ≤ 2 ^ 26 ⌝ }
     ensures { λ r. ⌜ r ≡ within t n (lead a b) ⌝ }

@@ -96,7 +96,8 @@ fn first_corner(a: i64, b: i64, c: i64, d: i64, n: i64) -> Wide
     }
 }
 
-// The best of the four corners, of which (u, v) is the first: the others are less q, qω and q(1 + ω), for q = (c, d) of the norm n. The norm of r − w is the norm of r, plus that of w, less the trace of r·conj(w): x and y are the traces for q and qω, and x + y is that for q(1 + ω).
+// The best of the four corners, of which (u, v) is the first: the others are less q, qω and q(1 + ω), for q = (c, d) of the norm n.
+// The norm of r − w is the norm of r, plus that of w, less the trace of r·conj(w): x and y are the traces for q and qω, and x + y is that for q(1 + ω).
 fn best_corner(u: i64, v: i64, c: i64, d: i64, n: i64) -> Wide
     requires { ⌜ (natAbs u ≤ 2 ^ 14) × (natAbs v ≤ 2 ^ 14) × (natAbs c ≤ 4095) × (natAbs d ≤ 4095) × (n ≡ pos (norm (value c d))) ⌝ }
     ensures { λ r. ⌜ value (r .a) (r .b) ≡ best (best (value u v) (value (u -ℤ c) (v -ℤ d))) (best (value (u +ℤ d) ((v -ℤ c) +ℤ d)) (value ((u -ℤ c) +ℤ d) (v -ℤ c))) ⌝ }
