@@ -1,6 +1,2 @@
-pub mod Operands
-pub mod Putting
-pub mod Bounds
-pub mod Joining
-pub mod Splitting
+pub mod Copies
 pub mod Wraps

@@ -1,9 +1,9 @@
 -- A product of two arrays, wrapped at N.
 use mathlib.Core.Path.{_≡_, sym, _∙_, ap₂, subst}
 use mathlib.Core.List.{List}
-use Prim.Native.Nat.{ℕ, _+_, _-_, _*_, _/_, _^_, _≤_, _<_}
+use Prim.Native.Nat.{ℕ, _+_, _*_, _/_, _^_, _≤_, _<_}
 use native.Mathlib.Omega.{arith}
-use native.Mathlib.Nat.{le-trans, mul-le-mul}
+use native.Mathlib.Nat.{le-trans}
 use lib.Dec.{lit≤}
 use lib.IntN.{ℤ, pos, natAbs}
 use lib.ListN.{length, getD}
@@ -13,11 +13,8 @@ use Rattle.arrays.specs.Arrays.{AllWithin, Small}
 use Rattle.arrays.proofs.Sizes.{PartsAtMost}
 use Rattle.halving.specs.Products.{product, wrapped}
 use Rattle.halving.proofs.Promises.{wrapped-is-convolution}
-use Rattle.convolution.specs.Conditions.{Halvable, Reducible}
-use Rattle.convolution.proofs.Bounds.{product-within, convolution-reducible, num-within}
-
-pub halvable : (n : ℕ) (x : List ℤ) → n ≤ 1024 → Small x → Halvable n x
-halvable n x p h k = le-trans (mul-le-mul {m₁ = n - 1} {m₂ = 1023} (h k) (omega arith)) (lit≤ tt)
+use Rattle.halved_products.specs.Conditions.{Reducible}
+use Rattle.halved_products.proofs.Bounds.{product-within, convolution-reducible, num-within}
 
 within : (x : List ℤ) → Small x → AllWithin (2 ^ 23) x
 within x h k = le-trans (h k) (lit≤ tt)

@@ -7,11 +7,9 @@ ghost use Rattle.refusals.specs.Numbers.{answered};
 ghost use Rattle.parameters.specs.Sets.{setOf};
 ghost use Rattle.convolution.specs.Calls.{convolving};
 
-mod direct;
-mod halves;
 mod wrapping;
 
-use convolution_refusals::convolving_refusal;
+use halved_products::convolve_up_to_16;
 use parameters::Parameters;
 use refusals::Answer;
 
@@ -22,9 +20,9 @@ pub fn convolve(p: Parameters, x: &[i32], y: &[i32], out: &mut [i32]) -> Answer
     let n = p.n;
     let c = p.c;
     let d = p.d;
-    match convolving_refusal(p, x, y, out.len()) {
+    match convolve_up_to_16(p, x, y, out) {
         Answer::Done => {
-            wrapping::convolve_q(x, y, n as usize, c, d, out);
+            wrapping::convolve_more(x, y, n as usize, c, d, out);
             Answer::Done
         }
         Answer::Refused(refusal) => Answer::Refused(refusal),

@@ -1,63 +1,19 @@
-// Convolution modulo q: the product of two arrays, wrapped at N and reduced.
+// Convolution modulo q of more than 16 coefficients: the product by halving, wrapped at N and reduced.
 ghost use mathlib.Core.Path.{_≡_};
+ghost use mathlib.Core.Bool.{cond};
 ghost use Prim.Native.Nat.{ℕ, _+_, _*_, _^_, _<_, _≤_};
+ghost use lib.Dec.{leb};
 ghost use lib.IntN.{pos, natAbs};
-ghost use lib.ListN.{length, getD, take, set};
+ghost use lib.ListN.{length, getD, take};
 ghost use Rattle.eisenstein.specs.Values.{value};
 ghost use Rattle.eisenstein.specs.Reduction.{modQ};
 ghost use Rattle.polynomials.specs.Polynomials.{coefficient, array, convolution};
-ghost use Rattle.arrays.specs.Arrays.{Small};
 ghost use Rattle.arrays.specs.Conditions.{Modulus};
 ghost use Rattle.halving.specs.Products.{wrapped};
-ghost use Rattle.convolution.specs.Conditions.{Convolvable, Convolved, Factors, Reducible};
-use crate::direct::product_at;
-use crate::halves::multiply;
+ghost use Rattle.halved_products.specs.Conditions.{Convolvable, Convolved, Factors, Reducible};
 use eisenstein::Wide;
-
-// Stores v reduced modulo q = (c, d) as coefficient i.
-fn store_remainder(out: &mut [i32], i: usize, v: Wide, c: i32, d: i32)
-    requires { ⌜ (i < 1024) × (2 * i + 1 < length (now out)) × Reducible (value (v .a) (v .b)) × Modulus (value c d) ⌝ }
-    ensures { λ _. ⌜ now (out .exit) ≡ set (set (now (out .entry)) (2 * i) (modQ (value c d) (value (v .a) (v .b)) .a)) (2 * i + 1) (modQ (value c d) (value (v .a) (v .b)) .b) ⌝ }
-{
-    let va = v.a;
-    let vb = v.b;
-    let r = remainders::remainder_q(va, vb, c, d);
-    let a = r.a;
-    let b = r.b;
-    out[2 * i] = a;
-    out[2 * i + 1] = b;
-}
-
-// Coefficient i of the convolution of two arrays of at most 16 coefficients: that of the product, and what is wrapped to it.
-fn few_wrapped_at(x: &[i32], y: &[i32], n: usize, i: usize) -> Wide
-    requires { ⌜ (i < n) × (n ≤ 16) × (length (now x) ≡ 2 * n) × (length (now y) ≡ 2 * n) ⌝ }
-    requires { ⌜ Small (now x) ⌝ }
-    requires { ⌜ Small (now y) ⌝ }
-    ensures { λ r. ⌜ value (r .a) (r .b) ≡ convolution n (coefficient (now (x .entry))) (coefficient (now (y .entry))) i ⌝ }
-{
-    let early = product_at(x, y, n, i);
-    let later = product_at(x, y, n, n + i);
-    let ea = early.a;
-    let eb = early.b;
-    let la = later.a;
-    let lb = later.b;
-    Wide {
-        a: ea + la,
-        b: eb + lb,
-    }
-}
-
-// x × y reduced modulo q, to out, for at most 16 coefficients.
-fn convolve_few(x: &[i32], y: &[i32], n: usize, c: i32, d: i32, out: &mut [i32])
-    requires { ⌜ (n ≤ 16) × Convolvable n (value c d) (now x) (now y) (now out) ⌝ }
-    ensures { λ _. ⌜ Convolved n (value c d) (now (x .entry)) (now (y .entry)) (now (out .exit)) ⌝ }
-{
-    let mut k = 0;
-    while k < n {
-        store_remainder(out, k, few_wrapped_at(x, y, n, k), c, d);
-        k += 1;
-    }
-}
+use halved_products::multiply_halved;
+use remainders::store_remainder;
 
 // Coefficient i of a product of 2n coefficients, wrapped at n.
 fn wrapped_at(w: &[i64], n: usize, i: usize) -> Wide
@@ -101,12 +57,12 @@ fn copy(from: &[i32], to: &mut [i32])
     }
 }
 
-// x × y reduced modulo q, to x, with room for the product.
+// x × y reduced modulo q, to x, with room for the product, which is formed since the operands are small and the room is large enough.
 fn convolve_in(x: &mut [i32], y: &mut [i32], n: usize, c: i32, d: i32, w: &mut [i64])
     requires { ⌜ Convolvable n (value c d) (now x) (now y) (now x) × Factors n (now x) (now y) (now w) ⌝ }
     ensures { λ _. ⌜ Convolved n (value c d) (now (x .entry)) (now (y .entry)) (now (x .exit)) ⌝ }
 {
-    multiply(x, y, n, w);
+    multiply_halved(x, y, n, w);
     reduce_wrapped(w, n, c, d, x);
 }
 
@@ -209,13 +165,12 @@ fn convolve_some(x: &[i32], y: &[i32], n: usize, c: i32, d: i32, out: &mut [i32]
     convolve_copies(out, &mut ys[..2 * n], n, c, d);
 }
 
-// x × y reduced modulo q = (c, d), to out.
-pub(crate) fn convolve_q(x: &[i32], y: &[i32], n: usize, c: i32, d: i32, out: &mut [i32])
+// x × y reduced modulo q = (c, d), to out, for more than 16 coefficients. Up to 16 nothing is written.
+pub(crate) fn convolve_more(x: &[i32], y: &[i32], n: usize, c: i32, d: i32, out: &mut [i32])
     requires { ⌜ Convolvable n (value c d) (now x) (now y) (now out) ⌝ }
-    ensures { λ _. ⌜ Convolved n (value c d) (now (x .entry)) (now (y .entry)) (now (out .exit)) ⌝ }
+    ensures { λ _. ⌜ now (out .exit) ≡ cond (leb n 16) (now (out .entry)) (array n (λ i. modQ (value c d) (convolution n (coefficient (now (x .entry))) (coefficient (now (y .entry))) i))) ⌝ }
 {
     if n <= 16 {
-        convolve_few(x, y, n, c, d, out);
         return;
     }
     if n <= 128 {

@@ -1,4 +1,4 @@
-// One value of Z[ω] reduced modulo q, with its refusals.
+// One value of Z[ω] reduced modulo q, with its refusals, and its remainder stored in an array.
 // Whether a value is its own remainder is not asked here: that needs no division.
 ghost use mathlib.Core.Path.{_≡_};
 ghost use mathlib.Core.Bool.{cond};
@@ -10,7 +10,7 @@ ghost use Rattle.refusals.specs.Outcomes.{written, Passes};
 ghost use Rattle.eisenstein.specs.Values.{value, 𝟘, norm};
 ghost use Rattle.eisenstein.specs.Reduction.{better, best, corner, modQ};
 ghost use Rattle.eisenstein.specs.Calls.{answered};
-ghost use Rattle.remainders.specs.Calls.{reductionChecks, reduceQ};
+ghost use Rattle.remainders.specs.Calls.{reductionChecks, reduceQ, withCoefficient};
 ghost use Rattle.remainders.specs.Conditions.{Differ};
 
 mod checks;
@@ -179,4 +179,20 @@ pub fn remainder_q(a: i64, b: i64, c: i32, d: i32) -> Pair
         Answer::Done => remainder_of(a, b, c, d),
         Answer::Refused(_) => Pair { a: 0, b: 0 },
     }
+}
+
+// Stores the remainder of v modulo q = (c, d) as coefficient i of an array, and zero where `reduce_q` refuses. Where the array has no such coefficient it stays as it is.
+pub fn store_remainder(out: &mut [i32], i: usize, v: Wide, c: i32, d: i32)
+    ensures { λ _. ⌜ now (out .exit) ≡ withCoefficient i (written (reduceQ (value c d) (value (v .a) (v .b))) 𝟘) (now (out .entry)) ⌝ }
+{
+    if out.len() / 2 <= i {
+        return;
+    }
+    let va = v.a;
+    let vb = v.b;
+    let r = remainder_q(va, vb, c, d);
+    let ra = r.a;
+    let rb = r.b;
+    out[2 * i] = ra;
+    out[2 * i + 1] = rb;
 }

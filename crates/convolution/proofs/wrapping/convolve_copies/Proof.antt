@@ -1,6 +1,6 @@
 -- `convolve_copies` meets its contract: each room is taken where it is large enough.
 use borrow.Author.Needs.{needs}
-use Rattle.convolution.proofs.Operands.{convolvable-handed, convolved-handed}
+use Rattle.halved_products.proofs.Operands.{convolvable-handed, convolved-handed}
 use Rattle.convolution.proofs.wrapping.convolve_copies.Statement.{statement}
 use Rattle.convolution.proofs.wrapping.convolve_copies.Tie as tie
 

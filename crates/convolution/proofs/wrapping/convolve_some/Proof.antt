@@ -5,7 +5,8 @@ use lib.ListN.{length}
 use mir.Syntax.{w32}
 use mir.Val.{toZ, ofZ}
 use Rattle.eisenstein.specs.Values.{value}
-use Rattle.convolution.proofs.Operands.{convolvable-handed, convolved-handed, convolvable-copies, convolved-copies, copied, copied-whole}
+use Rattle.halved_products.proofs.Operands.{convolvable-handed, convolved-handed}
+use Rattle.convolution.proofs.Copies.{convolvable-copies, convolved-copies, copied, copied-whole}
 use Rattle.convolution.proofs.wrapping.convolve_some.Statement.{statement}
 use Rattle.convolution.proofs.wrapping.convolve_some.Tie as tie
 

@@ -1,17 +1,20 @@
 -- `reduce_wrapped` meets its contract. The loop's invariant: the coefficients that are stored are right.
 use mathlib.Core.Path.{sym, _∙_, ap, subst}
-use Prim.Native.Nat.{_-_, _≤_}
+use Prim.Native.Nat.{_+_, _-_, _*_, _^_, _≤_, _<_}
 use native.Mathlib.Omega.{arith}
+use lib.ListN.{length}
 use mir.Syntax.{w32}
 use mir.Val.{toZ, ofZ}
 use Rattle.eisenstein.specs.Values.{ℤ[ω], value}
 use Rattle.eisenstein.specs.Reduction.{modQ}
+use Rattle.eisenstein.proofs.Limits.{not-beyond}
 use Rattle.eisenstein.proofs.Pairs.{pair-read}
 use Rattle.polynomials.specs.Polynomials.{coefficient, array}
+use Rattle.remainders.proofs.Limits.{stored-remainder}
 use Rattle.arrays.proofs.Changing.{Changed, changed-none, stored-next, stored-all}
 use Rattle.arrays.proofs.Sizes.{modulus-handed}
 use Rattle.halving.specs.Products.{wrapped}
-use Rattle.convolution.specs.Conditions.{Reducible}
+use Rattle.halved_products.specs.Conditions.{Reducible}
 use Rattle.convolution.proofs.wrapping.reduce_wrapped.Statement.{statement}
 use Rattle.convolution.proofs.wrapping.reduce_wrapped.Tie as tie
 
@@ -30,17 +33,19 @@ reduce-wrapped-spec =
     μ-loop
     (λ c. (omega arith, changed-none))
     (λ c κs. let s = c .before .before .before in ((c .before .loop-test .taken, s .pre .0 .0, s .pre .0 .1), s .pre .1 .0))
-    (λ c κs.
-    let l = c .before .before .before in
-    let s = l .before in
-    (omega (arith, c .before .before .loop-test .taken, s .pre .0 .0), omega (arith, c .before .before .loop-test .taken, l .loop .inv .1 .long, s .pre .0 .2), subst Reducible (sym (c .wrapped-at .ensures)) (s .pre .1 .1 (l .loop .i) (c .before .before .loop-test .taken)), modulus-handed (s .fits .c) (s .fits .d) (s .pre .0 .3)))
+    (λ c κs. tt)
     (λ c. omega (arith, c .before .before .before .before .loop-test .taken))
     (λ c. omega arith)
     (λ c.
     let l = c .before .before .before .before .before in
     let s = l .before in
     let taken = c .before .before .before .before .loop-test .taken in
-    (omega (arith, taken), stored-next (l .loop .inv .1) (c .before .store-remainder .ensures) (omega (arith, taken, l .loop .inv .1 .long, s .pre .0 .2)) (ap (modQ (value (toZ w32 (ofZ w32 (s .args .c))) (toZ w32 (ofZ w32 (s .args .d))))) (c .before .before .wrapped-at .ensures))))
+    let q : ℤ[ω] = value (toZ w32 (ofZ w32 (s .args .c))) (toZ w32 (ofZ w32 (s .args .d))) in
+    let m = modulus-handed (s .fits .c) (s .fits .d) (s .pre .0 .3) in
+    let v = c .before .before .wrapped-at in
+    let r = subst Reducible (sym (v .ensures)) (s .pre .1 .1 (l .loop .i) taken) in
+    let room : 2 * l .loop .i + 1 < length (l .loop .out) = omega (arith, taken, l .loop .inv .1 .long, s .pre .0 .2) in
+    (omega (arith, taken), stored-next (l .loop .inv .1) (stored-remainder (l .loop .i) (l .loop .out) q (value (v .result .a) (v .result .b)) room (m .in-range) (m .not-zero) (not-beyond (2 ^ 40) (value (v .result .a) (v .result .b)) (r .0) (r .1)) (c .before .store-remainder .ensures)) room (ap (modQ q) (v .ensures))))
     (λ c. c .before .loop .inv .1 .long)
     (λ c.
     let l = c .before in
