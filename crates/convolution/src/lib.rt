@@ -9,11 +9,12 @@ ghost use Rattle.convolution.specs.Calls.{convolving};
 
 mod wrapping;
 
+use halved_products::Begun;
 use halved_products::convolve_up_to_16;
 use parameters::Parameters;
 use refusals::Answer;
 
-// x × y reduced modulo q, to out.
+// x × y reduced modulo q, to out: by direct sums up to 16 coefficients, by halving above.
 pub fn convolve(p: Parameters, x: &[i32], y: &[i32], out: &mut [i32]) -> Answer
     ensures { λ r. ⌜ Gives (convolving (setOf p) (now (x .entry)) (now (y .entry)) (length (now (out .entry)))) (number (answered r)) (now (out .entry)) (now (out .exit)) ⌝ }
 {
@@ -21,10 +22,10 @@ pub fn convolve(p: Parameters, x: &[i32], y: &[i32], out: &mut [i32]) -> Answer
     let c = p.c;
     let d = p.d;
     match convolve_up_to_16(p, x, y, out) {
-        Answer::Done => {
-            wrapping::convolve_more(x, y, n as usize, c, d, out);
+        Begun::Passed(formed) => {
+            wrapping::convolve_unless(formed, x, y, n as usize, c, d, out);
             Answer::Done
         }
-        Answer::Refused(refusal) => Answer::Refused(refusal),
+        Begun::Refused(refusal) => Answer::Refused(refusal),
     }
 }

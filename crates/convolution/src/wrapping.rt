@@ -165,12 +165,20 @@ fn convolve_some(x: &[i32], y: &[i32], n: usize, c: i32, d: i32, out: &mut [i32]
     convolve_copies(out, &mut ys[..2 * n], n, c, d);
 }
 
-// x × y reduced modulo q = (c, d), to out, for more than 16 coefficients. Up to 16 nothing is written.
-pub(crate) fn convolve_more(x: &[i32], y: &[i32], n: usize, c: i32, d: i32, out: &mut [i32])
-    requires { ⌜ Convolvable n (value c d) (now x) (now y) (now out) ⌝ }
-    ensures { λ _. ⌜ now (out .exit) ≡ cond (leb n 16) (now (out .entry)) (array n (λ i. modQ (value c d) (convolution n (coefficient (now (x .entry))) (coefficient (now (y .entry))) i))) ⌝ }
+// x × y reduced modulo q = (c, d), to out, unless it is formed already.
+pub(crate) fn convolve_unless(
+    formed: bool,
+    x: &[i32],
+    y: &[i32],
+    n: usize,
+    c: i32,
+    d: i32,
+    out: &mut [i32],
+)
+    requires { ⌜ (formed ≡ leb n 16) × Convolvable n (value c d) (now x) (now y) (now out) ⌝ }
+    ensures { λ _. ⌜ now (out .exit) ≡ cond formed (now (out .entry)) (array n (λ i. modQ (value c d) (convolution n (coefficient (now (x .entry))) (coefficient (now (y .entry))) i))) ⌝ }
 {
-    if n <= 16 {
+    if formed {
         return;
     }
     if n <= 128 {

@@ -1,6 +1,7 @@
 pub mod Operands
 pub mod Tested
-pub mod Putting
+pub mod Storing
 pub mod Bounds
-pub mod Joining
-pub mod Splitting
+mod Putting
+mod Joining
+mod Splitting

@@ -1,8 +1,9 @@
 -- What convolution's checks leave, where all are passed, and how it is handed on.
-use mathlib.Core.Path.{sym, subst}
-use mathlib.Core.Bool.{_&&_}
+use mathlib.Core.Path.{_≡_, sym, ap, subst}
+use mathlib.Core.Bool.{Bool, cond, _&&_}
 use mathlib.Core.List.{List, _++_}
 use Prim.Native.Nat.{ℕ, _*_}
+use lib.Dec.{leb}
 use lib.IntN.{ℤ}
 use lib.ListN.{length}
 use mir.Facts.{and-yes}
@@ -48,3 +49,7 @@ module _ (n : ℕ) (x y out : List ℤ) {c d : ℤ} (f : SFits w32 c) (g : SFits
 
   pub convolved-handed : Convolved n (value (toZ w32 (ofZ w32 c)) (toZ w32 (ofZ w32 d))) x y out → Convolved n (value c d) x y out
   convolved-handed = subst (λ (q : ℤ[ω]). Convolved n q x y out) (pair-read f g)
+
+-- one of two arrays, once it is known whether there are at most 16 coefficients
+pub chosen : (n : ℕ) {t : Bool} (a b : List ℤ) → leb n 16 ≡ t → cond t a b ≡ cond (leb n 16) a b
+chosen n a b e = ap (λ (t : Bool). cond t a b) (sym e)

@@ -12,24 +12,24 @@ use lib.ListN.{length}
 use mir.Facts.{and-yes}
 use Rattle.arrays.specs.Arrays.{full, Small, allSmall}
 use Rattle.arrays.proofs.Sizes.{all-within, are-within}
-use Rattle.halved_products.specs.Calls.{longEnough, multipliable}
+use Rattle.halved_products.specs.Calls.{lengthsFit, fitForHalving}
 use Rattle.halved_products.specs.Conditions.{Factors, Halvable}
 
-pub halvable : (n : ℕ) (x : List ℤ) → n ≤ 1024 → Small x → Halvable n x
+halvable : (n : ℕ) (x : List ℤ) → n ≤ 1024 → Small x → Halvable n x
 halvable n x p h k = le-trans (mul-le-mul {m₁ = n - 1} {m₂ = 1023} (h k) (omega arith)) (lit≤ tt)
 
 module _ (N : ℕ) (x y w : List ℤ) where
-  pub multipliable-holds : Factors N x y w → Small x → Small y → multipliable N x y (length w) ≡ true
-  unfolding multipliable longEnough
-  multipliable-holds f p q =
+  pub fit-holds : Factors N x y w → Small x → Small y → fitForHalving N x y (length w) ≡ true
+  unfolding fitForHalving lengthsFit
+  fit-holds f p q =
       ap₂ _&&_
       (ap₂ _&&_ (le-leb 2 N (f .0)) (ap₂ _&&_ (le-leb N 1024 (f .1)) (ap₂ _&&_ (eq-eqb _ _ (f .2)) (ap₂ _&&_ (eq-eqb _ _ (f .3)) (ap₂ _&&_ (le-leb (length w) 65536 (f .5)) (le-leb (17 * N) (2 * length w) (f .4)))))))
       (ap₂ _&&_ (all-within 5461 x p) (all-within 5461 y q))
 
-  pub factors-of : multipliable N x y (length w) ≡ true → Factors N x y w × Halvable N x × Halvable N y
-  unfolding multipliable longEnough
+  pub factors-of : fitForHalving N x y (length w) ≡ true → Factors N x y w × Halvable N x × Halvable N y
+  unfolding fitForHalving lengthsFit
   factors-of h =
-      let a = and-yes (longEnough N (length x) (length y) (length w)) (allSmall x && allSmall y) (subst T (sym h) tt) in
+      let a = and-yes (lengthsFit N (length x) (length y) (length w)) (allSmall x && allSmall y) (subst T (sym h) tt) in
       let s = and-yes (allSmall x) (allSmall y) (a .1) in
       let b = and-yes (leb 2 N) _ (a .0) in
       let c = and-yes (leb N 1024) _ (b .1) in

@@ -6,29 +6,41 @@ use Prim.Native.Nat.{ℕ, _*_, _<_}
 use lib.Dec.{leb}
 use lib.IntN.{ℤ}
 use lib.ListN.{length}
-use Rattle.refusals.specs.Outcomes.{Outcome, outcome}
-use Rattle.eisenstein.specs.Reduction.{modQ}
+use Rattle.refusals.specs.Outcomes.{Outcome, done, refused, outcome}
+use Rattle.refusals.specs.Numbers.{numberOf}
 use Rattle.parameters.specs.Sets.{ParameterSet, parameterChecks}
-use Rattle.polynomials.specs.Polynomials.{coefficient, array, convolution}
+use Rattle.polynomials.specs.Polynomials.{coefficient}
 use Rattle.arrays.specs.Arrays.{full, allSmall}
 use Rattle.halving.specs.Products.{product}
 use Rattle.convolution_refusals.specs.Checks.{convolvingChecks}
+use Rattle.halved_products.specs.declared.Begun.{Begun}
+use Rattle.halved_products.specs.declared.Begun.the-variants.{Passed, Refused}
 
 -- Two arrays of N coefficients, N from 2 to 1,024, and room of 17N/2 numbers or more, at most 65,536.
-unfoldable pub longEnough : (N x y room : ℕ) → Bool
-longEnough N x y room = leb 2 N && (leb N 1024 && (full N x && (full N y && (leb room 65536 && leb (17 * N) (2 * room)))))
+unfoldable pub lengthsFit : (N x y room : ℕ) → Bool
+lengthsFit N x y room = leb 2 N && (leb N 1024 && (full N x && (full N y && (leb room 65536 && leb (17 * N) (2 * room)))))
 
 -- Operands that are multiplied by halving: their numbers are at most 5,461 in size. The output is known by its length, `room`.
-unfoldable pub multipliable : ℕ → (x y : List ℤ) → ℕ → Bool
-multipliable N x y room = longEnough N (length x) (length y) room && (allSmall x && allSmall y)
+unfoldable pub fitForHalving : ℕ → (x y : List ℤ) → ℕ → Bool
+fitForHalving N x y room = lengthsFit N (length x) (length y) room && (allSmall x && allSmall y)
 
--- A call that answers whether it could, and has left the 2N coefficients of the product at the start of an output that held `old` if so, and `old` if not. What stands behind the product was room for smaller ones: it is left free.
+-- A call that answers whether it could, and has left the 2N coefficients of the product at the start of an output that held `old` if so, and `old` if not. All that stands behind the product is room, and is left free.
 abbrev pub Multiplies : Bool → ℕ → (x y : List ℤ) → Bool → (old new : List ℤ) → Type 0
 Multiplies can N x y r old new =
     (r ≡ can) × (can ≡ false → new ≡ old) × (can ≡ true → (i : ℕ) → i < 2 * N → coefficient new i ≡ product (coefficient x) (coefficient y) i)
 
--- Convolution modulo q as far as direct sums go: its refusals, and its result where N is at most 16. Above that the output stays `old`, as it came.
-unfoldable pub convolvingFew : ParameterSet → (x y old : List ℤ) → Outcome (List ℤ)
-convolvingFew p x y old =
-    outcome (parameterChecks p ++ convolvingChecks (p .N) (p .q) x y (length old))
-    (cond (leb (p .N) 16) (array (p .N) (λ i. modQ (p .q) (convolution (p .N) (coefficient x) (coefficient y) i))) old)
+-- Convolution modulo q as far as direct sums go: its refusals for every N, and whether N is at most 16, so that the result is formed.
+unfoldable pub beginning : ParameterSet → (x y : List ℤ) → ℕ → Outcome Bool
+beginning p x y room = outcome (parameterChecks p ++ convolvingChecks (p .N) (p .q) x y room) (leb (p .N) 16)
+
+abbrev pub answered : Begun → Outcome Bool
+answered (Passed formed) = done formed
+answered (Refused r) = refused (numberOf r)
+
+-- What an output holds then, that held `old` before: the value where it is formed, and `old` otherwise.
+abbrev pub left : {A : Type 0} → Outcome Bool → A → A → A
+left (done formed) value old = cond formed value old
+left (refused n) value old = old
+
+abbrev pub Begins : {A : Type 0} → Outcome Bool → A → Outcome Bool → (old new : A) → Type 0
+Begins o value r old new = (r ≡ o) × (new ≡ left o value old)

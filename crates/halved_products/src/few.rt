@@ -32,17 +32,18 @@ fn few_wrapped_at(x: &[i32], y: &[i32], n: usize, i: usize) -> Wide
     }
 }
 
-// x × y reduced modulo q, to out, for at most 16 coefficients. Above that nothing is written.
-pub(crate) fn convolve_few(x: &[i32], y: &[i32], n: usize, c: i32, d: i32, out: &mut [i32])
+// x × y reduced modulo q, to out, for at most 16 coefficients. Answers whether it was formed; nothing is written otherwise.
+pub(crate) fn convolve_few(x: &[i32], y: &[i32], n: usize, c: i32, d: i32, out: &mut [i32]) -> bool
     requires { ⌜ Convolvable n (value c d) (now x) (now y) (now out) ⌝ }
-    ensures { λ _. ⌜ now (out .exit) ≡ cond (leb n 16) (array n (λ i. modQ (value c d) (convolution n (coefficient (now (x .entry))) (coefficient (now (y .entry))) i))) (now (out .entry)) ⌝ }
+    ensures { λ r. ⌜ (r ≡ leb n 16) × (now (out .exit) ≡ cond (leb n 16) (array n (λ i. modQ (value c d) (convolution n (coefficient (now (x .entry))) (coefficient (now (y .entry))) i))) (now (out .entry))) ⌝ }
 {
     if n > 16 {
-        return;
+        return false;
     }
     let mut k = 0;
     while k < n {
         store_remainder(out, k, few_wrapped_at(x, y, n, k), c, d);
         k += 1;
     }
+    true
 }

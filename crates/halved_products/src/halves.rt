@@ -75,7 +75,7 @@ fn store(w: &mut [i64], i: usize, v: Wide)
 
 // The product of two arrays of at most 16 coefficients, by direct sums.
 fn multiply_few(x: &[i32], y: &[i32], n: usize, w: &mut [i64])
-    requires { ⌜ (n ≤ 16) × (length (now x) ≡ 2 * n) × (length (now y) ≡ 2 * n) × (4 * n ≤ length (now w)) ⌝ }
+    requires { ⌜ (1 ≤ n) × (n ≤ 16) × (length (now x) ≡ 2 * n) × (length (now y) ≡ 2 * n) × (4 * n ≤ length (now w)) ⌝ }
     requires { ⌜ AllWithin (2 ^ 23) (now x) ⌝ }
     requires { ⌜ AllWithin (2 ^ 23) (now y) ⌝ }
     ensures { λ _. ⌜ ((i : ℕ) → i < 2 * n → coefficient (now (w .exit)) i ≡ product (coefficient (now (x .entry))) (coefficient (now (y .entry))) i) ⌝ }

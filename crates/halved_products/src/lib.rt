@@ -2,14 +2,12 @@
 // It takes no room of its own: whoever calls it lends the room for the smaller products.
 // No function relies on its caller.
 ghost use mathlib.Core.Path.{_≡_};
-ghost use mathlib.Core.List.{_++_};
 ghost use lib.ListN.{length};
-ghost use Rattle.refusals.specs.Outcomes.{outcome, written};
-ghost use Rattle.refusals.specs.Numbers.{answered};
 ghost use Rattle.eisenstein.specs.Values.{value};
-ghost use Rattle.parameters.specs.Sets.{setOf, parameterChecks};
-ghost use Rattle.convolution_refusals.specs.Checks.{convolvingChecks};
-ghost use Rattle.halved_products.specs.Calls.{longEnough, multipliable, Multiplies, convolvingFew};
+ghost use Rattle.eisenstein.specs.Reduction.{modQ};
+ghost use Rattle.parameters.specs.Sets.{setOf};
+ghost use Rattle.polynomials.specs.Polynomials.{coefficient, array, convolution};
+ghost use Rattle.halved_products.specs.Calls.{lengthsFit, fitForHalving, Multiplies, beginning, answered, Begins};
 
 mod direct;
 mod few;
@@ -18,15 +16,16 @@ mod halves;
 use convolution_refusals::convolving_refusal;
 use parameters::Parameters;
 use refusals::Answer;
+use refusals::Refusal;
 
-// Whether two arrays of so many numbers have N coefficients, N from 2 to 1,024, and so much room is enough and not too much.
-fn long_enough(n: usize, x: usize, y: usize, room: usize) -> bool
-    ensures { λ r. ⌜ r ≡ longEnough n x y room ⌝ }
+// Whether two arrays of so many numbers have N coefficients, N from 2 to 1,024, and the room is enough. With at most 65,536 numbers each place in it is a small number.
+fn lengths_fit(n: usize, x: usize, y: usize, room: usize) -> bool
+    ensures { λ r. ⌜ r ≡ lengthsFit n x y room ⌝ }
 {
     if n < 2 {
         return false;
     }
-    if n > 1024 {
+    if n > Parameters::MAX_N as usize {
         return false;
     }
     if x != 2 * n {
@@ -42,10 +41,10 @@ fn long_enough(n: usize, x: usize, y: usize, room: usize) -> bool
 }
 
 // The same, and whether their numbers are small.
-fn multipliable(x: &[i32], y: &[i32], n: usize, room: usize) -> bool
-    ensures { λ r. ⌜ r ≡ multipliable n (now (x .entry)) (now (y .entry)) room ⌝ }
+fn fit_for_halving(x: &[i32], y: &[i32], n: usize, room: usize) -> bool
+    ensures { λ r. ⌜ r ≡ fitForHalving n (now (x .entry)) (now (y .entry)) room ⌝ }
 {
-    if !long_enough(n, x.len(), y.len(), room) {
+    if !lengths_fit(n, x.len(), y.len(), room) {
         return false;
     }
     if !array_limits::all_small(x) {
@@ -55,31 +54,34 @@ fn multipliable(x: &[i32], y: &[i32], n: usize, room: usize) -> bool
 }
 
 // The product of two arrays of n coefficients, before the wrap: 2n coefficients at the start of w, which has room for the smaller products behind them.
-// Answers whether it was formed; w is as it came otherwise, and x and y are so in either case.
+// Answers whether it was formed; w is as it came otherwise, and x and y are so in either case. What stands behind the product afterwards is left free.
 pub fn multiply_halved(x: &mut [i32], y: &mut [i32], n: usize, w: &mut [i64]) -> bool
     ensures { λ r. ⌜ (now (x .exit) ≡ now (x .entry)) × (now (y .exit) ≡ now (y .entry))
-        × Multiplies (multipliable n (now (x .entry)) (now (y .entry)) (length (now (w .entry)))) n (now (x .entry)) (now (y .entry)) r (now (w .entry)) (now (w .exit)) ⌝ }
+        × Multiplies (fitForHalving n (now (x .entry)) (now (y .entry)) (length (now (w .entry)))) n (now (x .entry)) (now (y .entry)) r (now (w .entry)) (now (w .exit)) ⌝ }
 {
-    if !multipliable(x, y, n, w.len()) {
+    if !fit_for_halving(x, y, n, w.len()) {
         return false;
     }
     halves::multiply(x, y, n, w);
     true
 }
 
-// Convolution modulo q as far as direct sums go: its refusals for every N, and x × y reduced, to out, where N is at most 16. Above that nothing is written.
-pub fn convolve_up_to_16(p: Parameters, x: &[i32], y: &[i32], out: &mut [i32]) -> Answer
-    ensures { λ r. ⌜ (answered r ≡ outcome (parameterChecks (setOf p) ++ convolvingChecks (p .n) (value (p .c) (p .d)) (now (x .entry)) (now (y .entry)) (length (now (out .entry)))) tt)
-        × (now (out .exit) ≡ written (convolvingFew (setOf p) (now (x .entry)) (now (y .entry)) (now (out .entry))) (now (out .entry))) ⌝ }
+// Where nothing is refused, whether the result was formed.
+pub enum Begun {
+    Passed(bool),
+    Refused(Refusal),
+}
+
+// Convolution modulo q as far as direct sums go: its refusals for every N, and x × y reduced, to out, where N is at most 16. Above that it is not formed, and out is as it came.
+pub fn convolve_up_to_16(p: Parameters, x: &[i32], y: &[i32], out: &mut [i32]) -> Begun
+    ensures { λ r. ⌜ Begins (beginning (setOf p) (now (x .entry)) (now (y .entry)) (length (now (out .entry))))
+        (array (p .n) (λ i. modQ (value (p .c) (p .d)) (convolution (p .n) (coefficient (now (x .entry))) (coefficient (now (y .entry))) i))) (answered r) (now (out .entry)) (now (out .exit)) ⌝ }
 {
     let n = p.n;
     let c = p.c;
     let d = p.d;
     match convolving_refusal(p, x, y, out.len()) {
-        Answer::Done => {
-            few::convolve_few(x, y, n as usize, c, d, out);
-            Answer::Done
-        }
-        Answer::Refused(refusal) => Answer::Refused(refusal),
+        Answer::Done => Begun::Passed(few::convolve_few(x, y, n as usize, c, d, out)),
+        Answer::Refused(refusal) => Begun::Refused(refusal),
     }
 }

@@ -2,14 +2,14 @@
 use mathlib.Core.Path.{_≡_, sym, _∙_, ap}
 use mathlib.Core.Bool.{Bool, true, false, cond}
 use mathlib.Core.List.{List, _++_}
+use Prim.Native.Nat.{ℕ}
 use borrow.Author.Needs.{needs}
 use denote.Ref.{now}
 use lib.Dec.{leb}
 use lib.IntN.{ℤ}
 use lib.ListN.{length}
-use Rattle.refusals.specs.Outcomes.{Check, Outcome, Passes, number, written}
-use Rattle.refusals.specs.Numbers.{answered}
-use Rattle.refusals.proofs.Checks.{done-with, refused-with}
+use Rattle.refusals.specs.Outcomes.{Check, Outcome, Passes, done, refused, outcome, number, written}
+use Rattle.refusals.proofs.Checks.{carried, carried-refused, outcome-carried, done-with, done-parts}
 use Rattle.eisenstein.specs.Values.{ℤ[ω]}
 use Rattle.eisenstein.specs.Reduction.{modQ}
 use Rattle.eisenstein.proofs.Pairs.{pair-read}
@@ -17,7 +17,7 @@ use Rattle.parameters.specs.Sets.{ParameterSet, setOf, parameterChecks}
 use Rattle.polynomials.specs.Polynomials.{coefficient, array, convolution}
 use Rattle.convolution_refusals.specs.Checks.{convolvingChecks}
 use Rattle.convolution.specs.Calls.{convolving}
-use Rattle.halved_products.specs.Calls.{convolvingFew}
+use Rattle.halved_products.specs.Calls.{beginning, answered, left}
 use Rattle.halved_products.proofs.Operands.{convolving-passed, convolvable-handed}
 use Rattle.convolution.proofs.Copies.{convolvable-to}
 use Rattle.convolution.proofs.convolve.Statement.{statement}
@@ -32,22 +32,30 @@ checks s = parameterChecks (P s) ++ convolvingChecks (P s .N) (P s .q) (s .args 
 abbrev value-of : tie.Start → ℤ[ω] → List ℤ
 value-of s q = array (P s .N) (λ i. modQ q (convolution (P s .N) (coefficient (s .args .x .now)) (coefficient (s .args .y .now)) i))
 
-abbrev few-of : tie.Start → List ℤ
-few-of s = cond (leb (P s .N) 16) (value-of s (P s .q)) (s .args .out .now)
-
-abbrev start : tie.After-enum-told → tie.Start
+abbrev start : tie.After-formed → tie.Start
 start c = c .before .before .before .before .before .before .before
 
-all-passed : (c : tie.After-enum-told) → Passes (checks (start c))
-all-passed c = sym (c .before .before .before .convolve-up-to-16 .ensures .0) ∙ ap answered (c .enum-told .given .1)
+abbrev formed : tie.After-formed → Bool
+formed c = c .formed .given .0 .0
 
--- what was written, up to 16 coefficients or above
+told : (c : tie.After-formed) → outcome (checks (start c)) (leb (P (start c) .N) 16) ≡ done (formed c)
+unfolding beginning
+told c = sym (c .before .before .before .convolve-up-to-16 .ensures .0) ∙ ap answered (c .formed .given .1)
+
+all-passed : (c : tie.After-formed) → Passes (checks (start c)) × (leb (P (start c) .N) 16 ≡ formed c)
+all-passed c = done-parts (checks (start c)) (leb (P (start c) .N) 16) (formed c) (told c)
+
+-- what was written, by direct sums or after them
 either : (t : Bool) (v o : List ℤ) {l w : List ℤ} → l ≡ cond t v o → w ≡ cond t l v → w ≡ v
 either true v o e f = f ∙ e
 either false v o e f = f
 
+-- a refusal is that of every value
+refused-any : {A B : Type 0} (cs : List Check) (a : A) (b : B) (n : ℕ) → outcome cs a ≡ refused n → outcome cs b ≡ refused n
+refused-any {A} {B} cs a b n e = outcome-carried (λ (_ : A). b) cs a ∙ ap (carried (λ (_ : A). b)) e ∙ carried-refused (λ (_ : A). b) n
+
 pub convolve-spec : {M : Type 1} → statement M
-unfolding convolving convolvingFew
+unfolding convolving beginning
 convolve-spec =
     tie.close
     (tie.spec
@@ -55,24 +63,24 @@ convolve-spec =
     (λ c. search needs)
     (λ c. search needs)
     (λ c κs.
-    let r = c .before in
-    let s = start r in
-    let o = r .before .before .before .convolve-up-to-16 in
-    convolvable-handed (P s .N) (s .args .x .now) (s .args .y .now) (o .last .1 .1 .1 .0) (search needs) (search needs) (convolvable-to (o .last .1 .1 .1 .0) (o .kept .1 .1 .1 .0) (convolving-passed (P s) (s .args .x .now) (s .args .y .now) (s .args .out .now) (all-passed r))))
+    let f = c .before .before in
+    let s = start f in
+    let o = f .before .before .before .convolve-up-to-16 in
+    (sym (all-passed f .1), convolvable-handed (P s .N) (s .args .x .now) (s .args .y .now) (o .last .1 .1 .1 .0) (search needs) (search needs) (convolvable-to (o .last .1 .1 .1 .0) (o .kept .1 .1 .1 .0) (convolving-passed (P s) (s .args .x .now) (s .args .y .now) (s .args .out .now) (all-passed f .0)))))
     (λ c. search needs)
-    (λ c. c .before .convolve-more .kept .1 .1 .1 .1 .1 .0 ∙ c .before .before .before .before .before .before .convolve-up-to-16 .kept .1 .1 .1 .0)
+    (λ c. c .before .convolve-unless .kept .1 .1 .1 .1 .1 .1 .0 ∙ c .before .before .before .before .before .before .before .convolve-up-to-16 .kept .1 .1 .1 .0)
     (λ c.
-    let r = c .before .before .before in
-    let s = start r in
+    let f = c .before .before .before .before in
+    let s = start f in
+    let begun = f .before .before .before .convolve-up-to-16 in
     let v = value-of s (P s .q) in
-    let few = r .before .before .before .convolve-up-to-16 .ensures .1 ∙ ap (λ (x : Outcome (List ℤ)). written x (now (s .args .out))) (done-with (checks s) (few-of s) (all-passed r)) in
-    let o = done-with (checks s) v (all-passed r) in
-    (sym (ap number o), either (leb (P s .N) 16) v (s .args .out .now) few (c .before .convolve-more .ensures ∙ ap (λ (q : ℤ[ω]). cond (leb (P s .N) 16) (r .before .before .before .convolve-up-to-16 .last .1 .1 .1 .0) (value-of s q)) (pair-read (search needs) (search needs))) ∙ sym (ap (λ (x : Outcome (List ℤ)). written x (now (s .args .out))) o)))
+    let o = done-with (checks s) v (all-passed f .0) in
+    (sym (ap number o), either (formed f) v (s .args .out .now) (begun .ensures .1 ∙ ap (λ (x : Outcome Bool). left x v (s .args .out .now)) (told f)) (c .before .convolve-unless .ensures ∙ ap (λ (q : ℤ[ω]). cond (formed f) (begun .last .1 .1 .1 .0) (value-of s q)) (pair-read (search needs) (search needs))) ∙ sym (ap (λ (x : Outcome (List ℤ)). written x (now (s .args .out))) o)))
     (λ c. c .before .before .before .before .convolve-up-to-16 .kept .1 .1 .1 .0)
     (λ c.
     let r = c .before .before .before .before in
     let s = r .before .before .before .before in
+    let v = value-of s (P s .q) in
     let e = sym (r .convolve-up-to-16 .ensures .0) ∙ ap answered (c .before .refusal .given .1) in
-    let o = refused-with (checks s) (value-of s (P s .q)) _ e in
-    let few = refused-with (checks s) (few-of s) _ e in
-    (sym (ap number o), r .convolve-up-to-16 .ensures .1 ∙ ap (λ (x : Outcome (List ℤ)). written x (now (s .args .out))) few ∙ sym (ap (λ (x : Outcome (List ℤ)). written x (now (s .args .out))) o))))
+    let o = refused-any (checks s) (leb (P s .N) 16) v _ e in
+    (sym (ap number o), r .convolve-up-to-16 .ensures .1 ∙ ap (λ (x : Outcome Bool). left x v (s .args .out .now)) e ∙ sym (ap (λ (x : Outcome (List ℤ)). written x (now (s .args .out))) o))))

@@ -8,7 +8,7 @@ use Rattle.polynomials.specs.Polynomials.{coefficient}
 use Rattle.polynomials.proofs.Arrays.{array-same}
 use Rattle.arrays.proofs.Sizes.{modulus-handed}
 use Rattle.halving.specs.Products.{product}
-use Rattle.halved_products.proofs.Tested.{multipliable-holds}
+use Rattle.halved_products.proofs.Tested.{fit-holds}
 use Rattle.convolution.proofs.Wraps.{wraps, reducible, numbers-small}
 use Rattle.convolution.proofs.wrapping.convolve_in.Statement.{statement}
 use Rattle.convolution.proofs.wrapping.convolve_in.Tie as tie
@@ -17,7 +17,7 @@ use Rattle.convolution.proofs.wrapping.convolve_in.Tie as tie
 formed : (m : tie.After-multiply-halved) → let s = m .before .before .before .before in (i : ℕ) → i < 2 * s .args .n → coefficient (m .multiply-halved .last .1 .1 .1 .0) i ≡ product (coefficient (s .args .x .now)) (coefficient (s .args .y .now)) i
 formed m =
     let s = m .before .before .before .before in
-    m .multiply-halved .ensures .2 .2 (multipliable-holds (s .args .n) (s .args .x .now) (s .args .y .now) (s .args .w .now) (s .pre .1) (s .pre .0 .x-small) (s .pre .0 .y-small))
+    m .multiply-halved .ensures .2 .2 (fit-holds (s .args .n) (s .args .x .now) (s .args .y .now) (s .args .w .now) (s .pre .1) (s .pre .0 .x-small) (s .pre .0 .y-small))
 
 pub convolve-in-spec : {M : Type 1} → statement M
 convolve-in-spec =

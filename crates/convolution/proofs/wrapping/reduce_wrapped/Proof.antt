@@ -1,20 +1,18 @@
 -- `reduce_wrapped` meets its contract. The loop's invariant: the coefficients that are stored are right.
 use mathlib.Core.Path.{sym, _∙_, ap, subst}
-use Prim.Native.Nat.{_+_, _-_, _*_, _^_, _≤_, _<_}
+use Prim.Native.Nat.{_-_, _≤_}
 use native.Mathlib.Omega.{arith}
-use lib.ListN.{length}
 use mir.Syntax.{w32}
 use mir.Val.{toZ, ofZ}
 use Rattle.eisenstein.specs.Values.{ℤ[ω], value}
 use Rattle.eisenstein.specs.Reduction.{modQ}
-use Rattle.eisenstein.proofs.Limits.{not-beyond}
 use Rattle.eisenstein.proofs.Pairs.{pair-read}
 use Rattle.polynomials.specs.Polynomials.{coefficient, array}
-use Rattle.remainders.proofs.Limits.{stored-remainder}
-use Rattle.arrays.proofs.Changing.{Changed, changed-none, stored-next, stored-all}
+use Rattle.arrays.proofs.Changing.{Changed, changed-none, stored-all}
 use Rattle.arrays.proofs.Sizes.{modulus-handed}
 use Rattle.halving.specs.Products.{wrapped}
 use Rattle.halved_products.specs.Conditions.{Reducible}
+use Rattle.halved_products.proofs.Storing.{next-remainder}
 use Rattle.convolution.proofs.wrapping.reduce_wrapped.Statement.{statement}
 use Rattle.convolution.proofs.wrapping.reduce_wrapped.Tie as tie
 
@@ -44,8 +42,7 @@ reduce-wrapped-spec =
     let m = modulus-handed (s .fits .c) (s .fits .d) (s .pre .0 .3) in
     let v = c .before .before .wrapped-at in
     let r = subst Reducible (sym (v .ensures)) (s .pre .1 .1 (l .loop .i) taken) in
-    let room : 2 * l .loop .i + 1 < length (l .loop .out) = omega (arith, taken, l .loop .inv .1 .long, s .pre .0 .2) in
-    (omega (arith, taken), stored-next (l .loop .inv .1) (stored-remainder (l .loop .i) (l .loop .out) q (value (v .result .a) (v .result .b)) room (m .in-range) (m .not-zero) (not-beyond (2 ^ 40) (value (v .result .a) (v .result .b)) (r .0) (r .1)) (c .before .store-remainder .ensures)) room (ap (modQ q) (v .ensures))))
+    (omega (arith, taken), next-remainder (l .loop .out) (l .loop .i) q (value (v .result .a) (v .result .b)) m r (l .loop .inv .1) (c .before .store-remainder .ensures) (omega (arith, taken, l .loop .inv .1 .long, s .pre .0 .2)) (ap (modQ q) (v .ensures))))
     (λ c. c .before .loop .inv .1 .long)
     (λ c.
     let l = c .before in

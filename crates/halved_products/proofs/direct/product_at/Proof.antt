@@ -38,4 +38,12 @@ returns-2 c =
 
 pub product-at-spec : {M : Type 1} → statement M
 product-at-spec =
-    tie.close (tie.spec (λ c. search needs) (λ c κs. search needs) returns (λ c. search needs) (λ c. search needs) (λ c κs. search needs) returns-2)
+    tie.close
+    (tie.spec
+    (λ c. search needs)
+    (λ c κs. let s = c .before in ((omega arith, omega (arith, s .pre .0), omega arith, omega (arith, s .pre .0), omega (arith, s .pre .0), omega (arith, s .pre .0)), (s .pre .1 .0, s .pre .1 .1)))
+    returns
+    (λ c. search needs)
+    (λ c. search needs)
+    (λ c κs. let s = c .before in ((omega (arith, s .pre .0), omega (arith, s .pre .0), omega (arith, s .pre .0), omega (arith, s .pre .0), omega (arith, s .pre .0), omega (arith, s .pre .0)), (s .pre .1 .0, s .pre .1 .1)))
+    returns-2)

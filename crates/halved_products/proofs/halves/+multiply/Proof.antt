@@ -38,9 +38,6 @@ half-le n = omega arith
 rest-is : (n : ℕ) → n / 2 ≡ n - (n - n / 2)
 rest-is n = omega arith
 
-rest-less : (n i : ℕ) → i < 2 * (n - (n - n / 2)) → i < 2 * (n / 2)
-rest-less n i l = omega arith
-
 same-rest : (n : ℕ) {x a : List ℤ} → Added 0 (2 * (n - n / 2)) (2 * (n / 2)) x a → Added 0 (2 * (n - n / 2)) (2 * (n - (n - n / 2))) x a
 same-rest n {x} {a} = subst (λ (m : ℕ). Added 0 (2 * (n - n / 2)) (2 * m) x a) (rest-is n)
 
@@ -215,7 +212,6 @@ x-third : (t : ℕ) (c : lts.After-multiply3 (claims t) (multiply-at t) multiply
 x-third t c =
     let c₄ = c in let c₃₂ = c₄ .before .before .before .before .before in let c₃ = c₃₂ .before .before .before in let c₂ = c₃ .before .before .before .before .before in let c₁ = c₂ .before .before .before .before .before .before .before in
     let s = c₁ .before .before .before .before .before in let n = s .args .n in let half = 2 * (n - n / 2) in
-    let A = c₃ .add-numbers .last .0 in
     front-same half (c₄ .multiply3 .ensures .0)
 
 y-third : (t : ℕ) (c : lts.After-multiply3 (claims t) (multiply-at t) multiply.Post) →
@@ -226,7 +222,6 @@ y-third : (t : ℕ) (c : lts.After-multiply3 (claims t) (multiply-at t) multiply
 y-third t c =
     let c₄ = c in let c₃₂ = c₄ .before .before .before .before .before in let c₃ = c₃₂ .before .before .before in let c₂ = c₃ .before .before .before .before .before in let c₁ = c₂ .before .before .before .before .before .before .before in
     let s = c₁ .before .before .before .before .before in let n = s .args .n in let half = 2 * (n - n / 2) in
-    let B = c₃₂ .add-numbers2 .last .0 in
     front-same half (c₄ .multiply3 .ensures .1)
 
 w-third : (t : ℕ) (c : lts.After-multiply3 (claims t) (multiply-at t) multiply.Post) →
@@ -291,11 +286,11 @@ three-formed t c =
     let sy = sum-y t c₃₂ in
     let U = c₄ .multiply3 .last .1 .1 .1 .0 in
     let lu = c₄ .multiply3 .kept .1 .1 .1 .0 in
-    three n (n - n / 2) (le-half n) (half-le n) (few n big) (r .0 .1) X Y A B W₁ Z U (length W₁ - 2 * half) (length W₂ - 2 * (2 * n)) (r .0 .2) (r .0 .3) (r .1 .0) (r .1 .1) sx sy (sum-bounded n (n - n / 2) X (r .0 .2) p q A sx (near n) (r .1 .0)) (sum-bounded n (n - n / 2) Y (r .0 .3) p q B sy (near n) (r .1 .1)) (long-enough n (length W₁) (length (s .args .w .now)) big (r .0 .4) lw₁) lz refl (u-long n big (length U) (length (s .args .w .now)) (length W₁) (length W₂) (r .0 .4) lw₁ lw₂ (lu ∙ mid-length (2 * (2 * n)) {x = W₂} refl)) (c₁ .multiply .ensures .2) (λ i l. c₂ .multiply2 .ensures .2 i (rest-less n i l) ∙ ap₂ (λ (a b : List ℤ). product (coefficient a) (coefficient b) i) (mid-is half x₁) (mid-is half y₁)) (c₄ .multiply3 .ensures .2)
+    three n (n - n / 2) (le-half n) (half-le n) (few n big) (r .0 .1) X Y A B W₁ Z U (length W₁ - 2 * half) (length W₂ - 2 * (2 * n)) (r .0 .2) (r .0 .3) (r .1 .0) (r .1 .1) sx sy (sum-bounded n (n - n / 2) X (r .0 .2) p q A sx (near n) (r .1 .0)) (sum-bounded n (n - n / 2) Y (r .0 .3) p q B sy (near n) (r .1 .1)) (long-enough n (length W₁) (length (s .args .w .now)) big (r .0 .4) lw₁) lz refl (u-long n big (length U) (length (s .args .w .now)) (length W₁) (length W₂) (r .0 .4) lw₁ lw₂ (lu ∙ mid-length (2 * (2 * n)) {x = W₂} refl)) (c₁ .multiply .ensures .2) (λ i l. c₂ .multiply2 .ensures .2 i (omega (arith, l)) ∙ ap₂ (λ (a b : List ℤ). product (coefficient a) (coefficient b) i) (mid-is half x₁) (mid-is half y₁)) (c₄ .multiply3 .ensures .2)
 
 need-multiply-few-requires : (t : ℕ) → lts.Need-multiply-few-requires (claims t) (multiply-at t) multiply.Post
 need-multiply-few-requires t =
-    (λ c κs. let s = c .before .before .before .before in let r = s .pre .1 in ((c .before .before .before .if1 .taken, r .0 .2, r .0 .3, omega arith), (bounded-plain (s .args .x .now) (s .args .n - 1) (omega arith) (r .1 .0), bounded-plain (s .args .y .now) (s .args .n - 1) (omega arith) (r .1 .1))))
+    (λ c κs. let s = c .before .before .before .before in let r = s .pre .1 in ((omega (arith, r .0 .0), c .before .before .before .if1 .taken, r .0 .2, r .0 .3, omega arith), (bounded-plain (s .args .x .now) (s .args .n - 1) (omega arith) (r .1 .0), bounded-plain (s .args .y .now) (s .args .n - 1) (omega arith) (r .1 .1))))
 
 need-same-length : (t : ℕ) → lts.Need-same-length (claims t) (multiply-at t) multiply.Post
 need-same-length t =

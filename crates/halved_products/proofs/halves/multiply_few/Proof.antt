@@ -14,17 +14,17 @@ abbrev μ-loop : tie.MeasureT-loop
 μ-loop x y n w₀ i₀ w i = 2 * n - i
 
 product-at-requires : tie.Need-product-at-requires Inv-loop μ-loop
-product-at-requires c κs = let s = c .before .before .before in ((s .pre .0 .0, c .before .loop-test .taken, s .pre .0 .1, s .pre .0 .2), (s .pre .1 .0, s .pre .1 .1))
+product-at-requires c κs = let s = c .before .before .before in ((s .pre .0 .1, c .before .loop-test .taken, s .pre .0 .2, s .pre .0 .3), (s .pre .1 .0, s .pre .1 .1))
 
 store-requires : tie.Need-store-requires Inv-loop μ-loop
-store-requires c κs = let l = c .before .before .before in (omega arith, omega (arith, l .loop .inv .1 .long, l .before .pre .0 .3))
+store-requires c κs = let l = c .before .before .before in (omega arith, omega (arith, l .loop .inv .1 .long, l .before .pre .0 .4))
 
 loop-again : tie.Need-loop-again Inv-loop μ-loop
 loop-again c =
     let l = c .before .before .before .before .before in
     let s = l .before in
     let taken = c .before .before .before .before .loop-test .taken in
-    (omega (arith, taken), stored-next (l .loop .inv .1) (c .before .store .ensures) (omega (arith, taken, l .loop .inv .1 .long, s .pre .0 .3)) (c .before .before .product-at .ensures .0))
+    (omega (arith, taken), stored-next (l .loop .inv .1) (c .before .store .ensures) (omega (arith, taken, l .loop .inv .1 .long, s .pre .0 .4)) (c .before .before .product-at .ensures .0))
 
 same-length : tie.Need-same-length Inv-loop μ-loop
 same-length c = c .before .loop .inv .1 .long
