@@ -12,7 +12,7 @@ use lib.ListN.{length}
 use mir.Facts.{and-yes}
 use Rattle.arrays.specs.Arrays.{full, Small, allSmall}
 use Rattle.arrays.proofs.Sizes.{all-within, are-within}
-use Rattle.halved_products.specs.Calls.{lengthsFit, fitForHalving}
+use Rattle.halving.specs.Operands.{lengthsFit, fitForHalving}
 use Rattle.halved_products.specs.Conditions.{Factors, Halvable}
 
 halvable : (n : ℕ) (x : List ℤ) → n ≤ 1024 → Small x → Halvable n x

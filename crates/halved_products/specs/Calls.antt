@@ -1,28 +1,18 @@
 -- What the calls of products by halving give.
 use mathlib.Core.Path.{_≡_}
-use mathlib.Core.Bool.{Bool, true, false, cond, _&&_}
+use mathlib.Core.Bool.{Bool, true, false, cond}
 use mathlib.Core.List.{List, _++_}
 use Prim.Native.Nat.{ℕ, _*_, _<_}
 use lib.Dec.{leb}
 use lib.IntN.{ℤ}
-use lib.ListN.{length}
 use Rattle.refusals.specs.Outcomes.{Outcome, done, refused, outcome}
 use Rattle.refusals.specs.Numbers.{numberOf}
 use Rattle.parameters.specs.Sets.{ParameterSet, parameterChecks}
 use Rattle.polynomials.specs.Polynomials.{coefficient}
-use Rattle.arrays.specs.Arrays.{full, allSmall}
 use Rattle.halving.specs.Products.{product}
 use Rattle.convolution_refusals.specs.Checks.{convolvingChecks}
 use Rattle.halved_products.specs.declared.Begun.{Begun}
 use Rattle.halved_products.specs.declared.Begun.the-variants.{Passed, Refused}
-
--- Two arrays of N coefficients, N from 2 to 1,024, and room of 17N/2 numbers or more, at most 65,536.
-unfoldable pub lengthsFit : (N x y room : ℕ) → Bool
-lengthsFit N x y room = leb 2 N && (leb N 1024 && (full N x && (full N y && (leb room 65536 && leb (17 * N) (2 * room)))))
-
--- Operands that are multiplied by halving: their numbers are at most 5,461 in size. The output is known by its length, `room`.
-unfoldable pub fitForHalving : ℕ → (x y : List ℤ) → ℕ → Bool
-fitForHalving N x y room = lengthsFit N (length x) (length y) room && (allSmall x && allSmall y)
 
 -- A call that answers whether it could, and has left the 2N coefficients of the product at the start of an output that held `old` if so, and `old` if not. All that stands behind the product is room, and is left free.
 abbrev pub Multiplies : Bool → ℕ → (x y : List ℤ) → Bool → (old new : List ℤ) → Type 0

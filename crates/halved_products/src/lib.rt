@@ -7,7 +7,8 @@ ghost use Rattle.eisenstein.specs.Values.{value};
 ghost use Rattle.eisenstein.specs.Reduction.{modQ};
 ghost use Rattle.parameters.specs.Sets.{setOf};
 ghost use Rattle.polynomials.specs.Polynomials.{coefficient, array, convolution};
-ghost use Rattle.halved_products.specs.Calls.{lengthsFit, fitForHalving, Multiplies, beginning, answered, Begins};
+ghost use Rattle.halving.specs.Operands.{fitForHalving};
+ghost use Rattle.halved_products.specs.Calls.{Multiplies, beginning, answered, Begins};
 
 mod direct;
 mod few;
@@ -18,48 +19,13 @@ use parameters::Parameters;
 use refusals::Answer;
 use refusals::Refusal;
 
-// Whether two arrays of so many numbers have N coefficients, N from 2 to 1,024, and the room is enough. With at most 65,536 numbers each place in it is a small number.
-fn lengths_fit(n: usize, x: usize, y: usize, room: usize) -> bool
-    ensures { λ r. ⌜ r ≡ lengthsFit n x y room ⌝ }
-{
-    if n < 2 {
-        return false;
-    }
-    if n > Parameters::MAX_N as usize {
-        return false;
-    }
-    if x != 2 * n {
-        return false;
-    }
-    if y != 2 * n {
-        return false;
-    }
-    if room > 65536 {
-        return false;
-    }
-    17 * n <= 2 * room
-}
-
-// The same, and whether their numbers are small.
-fn fit_for_halving(x: &[i32], y: &[i32], n: usize, room: usize) -> bool
-    ensures { λ r. ⌜ r ≡ fitForHalving n (now (x .entry)) (now (y .entry)) room ⌝ }
-{
-    if !lengths_fit(n, x.len(), y.len(), room) {
-        return false;
-    }
-    if !array_limits::all_small(x) {
-        return false;
-    }
-    array_limits::all_small(y)
-}
-
 // The product of two arrays of n coefficients, before the wrap: 2n coefficients at the start of w, which has room for the smaller products behind them.
 // Answers whether it was formed; w is as it came otherwise, and x and y are so in either case. What stands behind the product afterwards is left free.
 pub fn multiply_halved(x: &mut [i32], y: &mut [i32], n: usize, w: &mut [i64]) -> bool
     ensures { λ r. ⌜ (now (x .exit) ≡ now (x .entry)) × (now (y .exit) ≡ now (y .entry))
         × Multiplies (fitForHalving n (now (x .entry)) (now (y .entry)) (length (now (w .entry)))) n (now (x .entry)) (now (y .entry)) r (now (w .entry)) (now (w .exit)) ⌝ }
 {
-    if !fit_for_halving(x, y, n, w.len()) {
+    if !halving::fit_for_halving(x, y, n, w.len()) {
         return false;
     }
     halves::multiply(x, y, n, w);

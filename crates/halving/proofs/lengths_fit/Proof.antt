@@ -6,9 +6,9 @@ use borrow.Author.Needs.{needs}
 use borrow.Author.Tests.{le-leb, lt-leb, eq-eqb, ne-eqb}
 use lib.Dec.{leb}
 use Rattle.arrays.specs.Arrays.{full}
-use Rattle.halved_products.specs.Calls.{lengthsFit}
-use Rattle.halved_products.proofs.lengths_fit.Statement.{statement}
-use Rattle.halved_products.proofs.lengths_fit.Tie as tie
+use Rattle.halving.specs.Operands.{lengthsFit}
+use Rattle.halving.proofs.lengths_fit.Statement.{statement}
+use Rattle.halving.proofs.lengths_fit.Tie as tie
 
 -- the whole test, after the tests that were made
 together : (s : tie.Start) {a b c d e : Bool} → leb 2 (s .args .n) ≡ a → leb (s .args .n) 1024 ≡ b → full (s .args .n) (s .args .x) ≡ c → full (s .args .n) (s .args .y) ≡ d → leb (s .args .room) 65536 ≡ e → (a && (b && (c && (d && (e && leb (17 * s .args .n) (2 * s .args .room)))))) ≡ lengthsFit (s .args .n) (s .args .x) (s .args .y) (s .args .room)

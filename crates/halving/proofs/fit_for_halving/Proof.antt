@@ -4,9 +4,9 @@ use mathlib.Core.Bool.{Bool, _&&_}
 use borrow.Author.Tests.{not-true, not-false}
 use lib.ListN.{length}
 use Rattle.arrays.specs.Arrays.{allSmall}
-use Rattle.halved_products.specs.Calls.{lengthsFit, fitForHalving}
-use Rattle.halved_products.proofs.fit_for_halving.Statement.{statement}
-use Rattle.halved_products.proofs.fit_for_halving.Tie as tie
+use Rattle.halving.specs.Operands.{lengthsFit, fitForHalving}
+use Rattle.halving.proofs.fit_for_halving.Statement.{statement}
+use Rattle.halving.proofs.fit_for_halving.Tie as tie
 
 -- the whole test, after the tests that were made
 together : (s : tie.Start) {a b : Bool} → lengthsFit (s .args .n) (length (s .args .x .now)) (length (s .args .y .now)) (s .args .room) ≡ a → allSmall (s .args .x .now) ≡ b → (a && (b && allSmall (s .args .y .now))) ≡ fitForHalving (s .args .n) (s .args .x .now) (s .args .y .now) (s .args .room)
