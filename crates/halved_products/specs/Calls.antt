@@ -23,6 +23,7 @@ Multiplies can N x y r old new =
 unfoldable pub beginning : ParameterSet → (x y : List ℤ) → ℕ → Outcome Bool
 beginning p x y room = outcome (parameterChecks p ++ convolvingChecks (p .N) (p .q) x y room) (leb (p .N) 16)
 
+-- The answer of that call, as an outcome.
 abbrev pub answered : Begun → Outcome Bool
 answered (Passed formed) = done formed
 answered (Refused r) = refused (numberOf r)
@@ -32,5 +33,6 @@ abbrev pub left : {A : Type 0} → Outcome Bool → A → A → A
 left (done formed) value old = cond formed value old
 left (refused n) value old = old
 
+-- A call that has answered so, and left `new` in an output that held `old`, has begun so.
 abbrev pub Begins : {A : Type 0} → Outcome Bool → A → Outcome Bool → (old new : A) → Type 0
 Begins o value r old new = (r ≡ o) × (new ≡ left o value old)

@@ -1,4 +1,4 @@
--- The outcome of the call on one value modulo q (document 01, 'Where each number is checked').
+-- The outcome of the call on one value modulo q (document 01, 'Where each number is checked'), and an array in which a value is stored.
 use mathlib.Core.Bool.{cond}
 use mathlib.Core.List.{List, [], _∷_}
 use Prim.Native.Nat.{ℕ, _+_, _*_, _/_, _^_}
