@@ -1,5 +1,8 @@
 // Answers handed on to single outputs: a remainder's parts, a parameter set's numbers, or a message's length.
 // It decides nothing. A refusal is its number alone, and writes to no output.
+
+#![tactic(auto)]
+
 ghost use Rattle.refusals.specs.Outcomes.{Gives};
 ghost use Rattle.eisenstein.specs.Values.{value};
 ghost use Rattle.eisenstein.specs.Calls.{answered};

@@ -1,6 +1,9 @@
 // Tests of an array's numbers by their size: whether all are small, and whether its coefficients are zeros and units alone.
 // It knows no parameter set, and refuses nothing.
 // No function relies on a length or on N.
+
+#![tactic(auto)]
+
 ghost use Rattle.std.specs.Prelude.{◌≡◌, ◌*◌, ◌≤◌, length};
 ghost use Rattle.polynomials.specs.Polynomials.{coefficient, zeros_and_units};
 ghost use Rattle.arrays.specs.Arrays.{all_small, units_array};

@@ -1,5 +1,8 @@
 // The sets that an array is held to, of f, of g and of φ, or being reduced, and the refusals 7 to 12 of one array.
 // It looks at no coefficient itself, forms no product of arrays, and changes none.
+
+#![tactic(auto)]
+
 ghost use Rattle.std.specs.Prelude.{◌≡◌};
 ghost use Rattle.refusals.specs.Numbers.{answered};
 ghost use Rattle.parameters.specs.Sets.{set_of};
@@ -11,7 +14,7 @@ use parameters::Parameters;
 use refusals::Answer;
 
 // What an array can be held to: the set of f, of g or of φ, or that it is reduced.
-#[derive(Drop)]
+#[derive(Clone, Copy)]
 pub enum ArraySet {
     F,
     G,

@@ -1,6 +1,9 @@
 // Arrays of 2N numbers: reading a number, comparing a coefficient, lengths, and zeros to begin with.
 // It asks nothing of an array's numbers, and forms no sum or product of arrays.
 // No function relies on a length or on N: a number past the end is read as 0.
+
+#![tactic(auto)]
+
 ghost use Rattle.std.specs.Prelude.{◌≡◌, ◌&&◌, ◌^◌, ◌<◌, ◌≤◌, pos, nat_abs, length, get_or, replicate};
 ghost use Rattle.eisenstein.specs.Values.{value, same};
 ghost use Rattle.polynomials.specs.Polynomials.{coefficient};

@@ -1,5 +1,8 @@
 // Whether a bundle is accepted: every refusal of reading it, in order, and where a reader of it begins.
 // It works on lent bytes, and opens no entry. At every N it takes less than 12 KiB of stack.
+
+#![tactic(auto)]
+
 ghost use Rattle.std.specs.Prelude.{◌≡◌};
 ghost use Rattle.refusals.specs.Outcomes.{outcome, Passes};
 ghost use Rattle.refusals.specs.Numbers.{answered};
@@ -51,7 +54,7 @@ pub fn check_bundle(file: &[u8]) -> Made
 }
 
 // Where a reader begins, and the parameters of the bundle or its first refusal.
-#[derive(Drop)]
+#[derive(Clone, Copy)]
 pub struct Start {
     pub at: usize,
     pub made: Made,

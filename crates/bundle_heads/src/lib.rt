@@ -1,5 +1,8 @@
 // The head of a bundle: its parameters and its count, which tell how long it is and what to lend for its entries.
 // It works on lent bytes, and looks at no entry.
+
+#![tactic(auto)]
+
 ghost use Rattle.std.specs.Prelude.{◌≡◌, not, [], ◌∷◌, ◌<◌, length};
 ghost use Rattle.refusals.specs.Outcomes.{outcome, ◌if◌};
 ghost use Rattle.parameters.specs.Sets.{made, set_of};

@@ -1,5 +1,8 @@
 // A reader that is given a bundle once and walks its entries.
 // All refusals come when the reader is made. A step hands out a part of the caller's own bytes, and no copy.
+
+#![tactic(auto)]
+
 ghost use Rattle.std.specs.Prelude.{◌≡◌};
 ghost use Rattle.refusals.specs.Outcomes.{outcome};
 ghost use Rattle.parameters.specs.Sets.{made};
@@ -13,7 +16,7 @@ use bundles::Stop;
 use parameters::Made;
 
 // The bundle, the place of the next entry, and the bundle's parameters or its first refusal. After a refusal no entry is left.
-#[derive(Drop)]
+#[derive(Clone, Copy)]
 pub struct Reader<'a> {
     pub bytes: &'a [u8],
     pub at: usize,
@@ -21,7 +24,7 @@ pub struct Reader<'a> {
 }
 
 // What a step hands out: a stop and the part of the bundle that is its sealed array, or that no entry is left.
-#[derive(Drop)]
+#[derive(Clone, Copy)]
 pub struct Entry<'a> {
     pub stop: Stop,
     pub array: &'a [u8],

@@ -1,6 +1,9 @@
 // The call that reads a bundle to two outputs: its stops, and the numbers of its arrays.
 // It works on lent bytes, and opens no entry. It ends with a result, or with the first refusal that applies, and then its outputs are as they came.
 // At every N it takes less than 12 KiB of stack.
+
+#![tactic(auto)]
+
 ghost use Rattle.std.specs.Prelude.{◌≡◌, length};
 ghost use Rattle.refusals.specs.Outcomes.{outcome, number, Gives, Passes};
 ghost use Rattle.refusals.specs.Numbers.{answered};

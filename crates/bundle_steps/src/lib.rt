@@ -1,5 +1,8 @@
 // The steps of a reader, on a bundle's bytes and a place in them: what stands there, and where the next entry stands.
 // They refuse nothing, ask nothing of their caller and copy nothing; a place where no entry stands is past the end.
+
+#![tactic(auto)]
+
 ghost use Rattle.std.specs.Prelude.{◌≡◌, cond, ◌+◌};
 ghost use Rattle.heads.specs.Heads.{head_of};
 ghost use Rattle.bundles.specs.Bundles.{stop_length, stored_at};

@@ -1,5 +1,8 @@
 // The stops of a bundle, read from its bytes, and whether one of them occurs twice.
 // It refuses nothing, and looks at no array. Any bytes have their stops: a byte past the end counts as 0.
+
+#![tactic(auto)]
+
 ghost use Rattle.std.specs.Prelude.{◌≡◌, ◌<◌, eqb, length, replicate};
 ghost use Rattle.unit_operands.specs.Operands.{Forms};
 ghost use Rattle.stop_sets.specs.Stops.{any_twice};

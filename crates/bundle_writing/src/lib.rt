@@ -1,6 +1,9 @@
 // The call that writes a bundle, from a parameter set, stops and the numbers of sealed arrays.
 // It writes to lent bytes, and opens no file of the system. It ends with `Done`, or with the first refusal that applies, and then its output is as it came.
 // At every N it takes less than 12 KiB of stack.
+
+#![tactic(auto)]
+
 ghost use Rattle.std.specs.Prelude.{◌≡◌, length};
 ghost use Rattle.refusals.specs.Outcomes.{outcome, number, Gives, Passes};
 ghost use Rattle.refusals.specs.Numbers.{answered};

@@ -1,11 +1,14 @@
 // Bundles, one file for a round: what a bundle is, what reading, walking and writing one give, both round trips, and its lengths.
 // It works on no bytes: reading, walking and writing are crates of their own.
+
+#![tactic(auto)]
+
 ghost use Rattle.std.specs.Prelude.{◌≡◌};
 ghost use Rattle.bundles.specs.Bundles.{entry_length};
 ghost use Rattle.bundles.specs.Calls.{right_length};
 
 // What a step finds: an entry's stop number, or that no entry is left.
-#[derive(Drop)]
+#[derive(Clone, Copy)]
 pub enum Stop {
     Number(u32),
     PastTheEnd,

@@ -1,6 +1,9 @@
 // The product of two arrays modulo 2: each coefficient is reduced to its class first, and only classes are multiplied and added.
 // What an array stands for in the scheme is not this crate's business.
 // Its one call relies on no caller: it asks N and the lengths, and nothing of the numbers. It takes less than 12 KiB of stack at every N.
+
+#![tactic(auto)]
+
 ghost use Rattle.std.specs.Prelude.{◌≡◌, ◌+◌, ◌*◌, ◌%◌, ◌≤◌, length, replicate};
 ghost use Rattle.eisenstein.specs.Reduction.{mod2};
 ghost use Rattle.polynomials.specs.Polynomials.{coefficient, array, convolution};

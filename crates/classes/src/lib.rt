@@ -1,6 +1,9 @@
 // The four classes modulo 2 by their numbers: 0 for 0, 1 for 1, 2 for ω, 3 for −1 − ω. Their products stand in a table.
 // It knows no array and forms no convolution.
 // No function relies on its caller.
+
+#![tactic(auto)]
+
 ghost use Rattle.std.specs.Prelude.{◌≡◌, map, ◌<◌};
 ghost use Rattle.eisenstein.specs.Values.{value};
 ghost use Rattle.eisenstein.specs.Reduction.{bit};

@@ -1,6 +1,9 @@
 // Convolution modulo q: document 01's call, by halving (document 02, wish 5).
 // It knows nothing of keys and messages, and no other product.
 // It ends with `Done`, or with document 01's first refusal that applies, and then its output is as it came.
+
+#![tactic(auto)]
+
 ghost use Rattle.std.specs.Prelude.{length};
 ghost use Rattle.refusals.specs.Outcomes.{number, Gives};
 ghost use Rattle.refusals.specs.Numbers.{answered};

@@ -1,5 +1,8 @@
 // The refusals of convolution: the first that applies, in document 01's order.
 // It multiplies nothing.
+
+#![tactic(auto)]
+
 ghost use Rattle.std.specs.Prelude.{◌≡◌, ◌++◌};
 ghost use Rattle.refusals.specs.Outcomes.{outcome};
 ghost use Rattle.refusals.specs.Numbers.{answered};

@@ -1,5 +1,8 @@
 // The ring Z[ω]: its definitions and laws, the six units, the norm, the limits of a value and of a modulus, and one value reduced modulo 2.
 // Its code reduces nothing modulo q. Arrays of values and parameter sets are not this crate's business.
+
+#![tactic(auto)]
+
 ghost use Rattle.std.specs.Prelude.{◌≡◌, ◌≤◌, ◌%◌, ◌^◌, ltb, eqb, pos, nat_abs, ◌<ℤ◌};
 ghost use Rattle.eisenstein.specs.Values.{value, 𝟘, norm, unit, same};
 ghost use Rattle.eisenstein.specs.Reduction.{mod2, bit};
@@ -8,7 +11,7 @@ ghost use Rattle.eisenstein.specs.Calls.{beyond, reduce2, answered};
 use refusals::Refusal;
 
 // A value a + bω of Z[ω], by its parts.
-#[derive(Drop)]
+#[derive(Clone, Copy)]
 pub struct Pair {
     pub a: i32,
     pub b: i32,
@@ -32,14 +35,14 @@ pub fn unit(number: usize) -> Pair
     UNITS[k]
 }
 
-#[derive(Drop)]
+#[derive(Clone, Copy)]
 pub enum Reduced {
     Remainder(Pair),
     Refused(Refusal),
 }
 
 // A value whose parts need more room.
-#[derive(Drop)]
+#[derive(Clone, Copy)]
 pub struct Wide {
     pub a: i64,
     pub b: i64,

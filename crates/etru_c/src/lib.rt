@@ -3,6 +3,9 @@
 // It decides nothing: each function hands its arguments on, and `include/etru.h` is its manual.
 // At every N `etru_convolve` takes at most 100 KiB of stack, `etru_open_files` 72 KiB, `etru_seal_places` 36 KiB, `etru_open`, `etru_open_short`, `etru_open_entry`, `etru_check_key` and `etru_spread_places` 28 KiB,
 // `etru_seal`, `etru_seal_short`, `etru_read`, `etru_read_bundle`, `etru_begin_bundle` and `etru_write_bundle` 12 KiB, and each other function 1 KiB.
+
+#![tactic(auto)]
+
 ghost use Rattle.std.specs.Prelude.{◌≡◌, cond, ◌+◌, length};
 ghost use Rattle.refusals.specs.Outcomes.{number, outcome, Gives};
 ghost use Rattle.eisenstein.specs.Values.{value};

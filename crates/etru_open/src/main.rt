@@ -3,6 +3,9 @@
 // What is printed is `opening::open_files` of the input, which is proved. This file only reads and writes.
 // - Input: it is read to its end. If a read fails, nothing is printed: what was read may be a part of the input, and document 01 has no line for it.
 // - Output: if it is closed, or a write fails, there is nobody to tell, and the program ends.
+
+#![tactic(auto)]
+
 ghost use Rattle.std.specs.Prelude.{◌≡◌, ◌+◌, ◌-◌, ◌≤◌, length};
 ghost use Rattle.io.specs.Counts.{clamp_len};
 

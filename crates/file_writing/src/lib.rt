@@ -2,6 +2,9 @@
 // It writes to lent bytes, opens no file of the system, and does not test whether F2 and Fq are inverses.
 // The call ends with a result, or with document 01's first refusal that applies, and then its output is as it came.
 // At every N it takes less than 1 KiB of stack.
+
+#![tactic(auto)]
+
 ghost use Rattle.std.specs.Prelude.{length};
 ghost use Rattle.refusals.specs.Outcomes.{number, Gives};
 ghost use Rattle.refusals.specs.Numbers.{answered};

@@ -1,5 +1,8 @@
 // Files: what a file of a kind is, what reading and writing one give, both round trips, and its lengths.
 // It works on no bytes: reading and writing are crates of their own.
+
+#![tactic(auto)]
+
 ghost use Rattle.std.specs.Prelude.{◌≡◌, pos, replicate};
 ghost use Rattle.files.specs.Files.{file_numbers, file_bytes};
 ghost use Rattle.files.specs.Calls.{right_lengths};

@@ -1,6 +1,9 @@
 // The product by halving (document 02, wish 5), before the wrap, and the convolution of at most 16 coefficients, where halving ends.
 // It takes no room of its own: whoever calls it lends the room for the smaller products.
 // No function relies on its caller.
+
+#![tactic(auto)]
+
 ghost use Rattle.std.specs.Prelude.{◌≡◌, length};
 ghost use Rattle.eisenstein.specs.Values.{value};
 ghost use Rattle.eisenstein.specs.Reduction.{mod_q};
@@ -31,7 +34,7 @@ pub fn multiply_halved(x: &mut [i32], y: &mut [i32], n: usize, w: &mut [i64]) ->
 }
 
 // Where nothing is refused, whether the result was formed.
-#[derive(Drop)]
+#[derive(Clone, Copy)]
 pub enum Begun {
     Passed(bool),
     Refused(Refusal),

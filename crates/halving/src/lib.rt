@@ -1,5 +1,8 @@
 // Products by halving (document 02, wish 5): what they are, that they are the direct ones, and what is asked of their operands.
 // It forms no product; `halved_products` does.
+
+#![tactic(auto)]
+
 ghost use Rattle.std.specs.Prelude.{◌≡◌};
 ghost use Rattle.halving.specs.Operands.{lengths_fit, fit_for_halving};
 

@@ -1,5 +1,8 @@
 // The call that reads a head. It works on lent bytes, and does not look at what follows a head.
 // It ends with the parameters, or with the first refusal that applies.
+
+#![tactic(auto)]
+
 ghost use Rattle.std.specs.Prelude.{◌≡◌};
 ghost use Rattle.parameters.specs.Sets.{made};
 ghost use Rattle.head_reading.specs.Calls.{reading_head};

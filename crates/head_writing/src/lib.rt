@@ -1,5 +1,8 @@
 // The call that writes a head. It works on lent bytes, and leaves what stands behind a head as it came.
 // It ends with the head written, or with the first refusal that applies, and then its output is as it came.
+
+#![tactic(auto)]
+
 ghost use Rattle.refusals.specs.Outcomes.{number, Gives};
 ghost use Rattle.refusals.specs.Numbers.{answered};
 ghost use Rattle.parameters.specs.Sets.{set_of};

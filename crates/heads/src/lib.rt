@@ -1,5 +1,8 @@
 // Heads of files: what a head is, the kinds of file and the arrays of each, and 16-bit numbers as bytes.
 // It reads and writes no file, and decides nothing about one.
+
+#![tactic(auto)]
+
 pub mod bytes;
 pub mod kinds;
 

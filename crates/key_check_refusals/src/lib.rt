@@ -1,5 +1,8 @@
 // The refusals of the key check up to those of its arrays: the first that applies, in document 01's order.
 // Whether F2 and Fq are inverses of f is not asked here.
+
+#![tactic(auto)]
+
 ghost use Rattle.std.specs.Prelude.{◌≡◌, ◌&&◌, ◌++◌};
 ghost use Rattle.refusals.specs.Outcomes.{outcome};
 ghost use Rattle.refusals.specs.Numbers.{answered};

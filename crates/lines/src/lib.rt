@@ -1,5 +1,8 @@
 // The line that the opening program prints, of a message and of a refusal.
 // It writes to lent bytes, prints nothing, and does not look at what a message says.
+
+#![tactic(auto)]
+
 ghost use Rattle.std.specs.Prelude.{◌≡◌, ◌++◌, ◌+◌, ◌*◌, ◌<◌, ◌≤◌, length, drop};
 ghost use Rattle.refusals.specs.Outcomes.{done, refused};
 ghost use Rattle.refusals.specs.Numbers.{number_of};

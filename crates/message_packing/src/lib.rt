@@ -1,5 +1,8 @@
 // The call of packing: a message's bytes to the polynomial that they stand for. It seals nothing.
 // It ends with `Done`, or with document 01's first refusal that applies, and then its output is as it came.
+
+#![tactic(auto)]
+
 ghost use Rattle.std.specs.Prelude.{◌≡◌, ◌*◌, ◌≤◌, length};
 ghost use Rattle.refusals.specs.Outcomes.{outcome, number, Gives};
 ghost use Rattle.refusals.specs.Numbers.{answered};

@@ -1,5 +1,8 @@
 // The message of a private and a sealed file, once both are read: of two parameter sets, what the key check answered, and the arrays f, F2 and e.
 // It reads no file, and checks no key.
+
+#![tactic(auto)]
+
 ghost use Rattle.std.specs.Prelude.{◌≡◌, min, length};
 ghost use Rattle.refusals.specs.Numbers.{answered};
 ghost use Rattle.parameters.specs.Sets.{set_of};
@@ -13,7 +16,7 @@ use parameters::Parameters;
 use refusals::{Answer, Refusal};
 
 // A message of so many bytes, or the first refusal.
-#[derive(Drop)]
+#[derive(Clone, Copy)]
 pub enum Opened {
     Message(usize),
     Refused(Refusal),

@@ -1,5 +1,8 @@
 // The two files of an input, opened: a private file and a sealed one, one after the other, to a message.
 // It writes no line, and reads no file of the system. Any input has its outcome.
+
+#![tactic(auto)]
+
 ghost use Rattle.opened_arrays.specs.Answers.{GivesMessage};
 ghost use Rattle.opened_files.specs.Pairs.{opening_files};
 

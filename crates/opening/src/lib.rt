@@ -1,5 +1,8 @@
 // The opening program's work: from its input to the line that it prints.
 // It reads and prints nothing itself. Any input has its line. At every N the work takes less than 72 KiB of stack.
+
+#![tactic(auto)]
+
 ghost use Rattle.std.specs.Prelude.{◌≡◌, ◌++◌, length, drop};
 ghost use Rattle.refusals.specs.Outcomes.{number, Gives};
 ghost use Rattle.refusals.specs.Numbers.{answered};

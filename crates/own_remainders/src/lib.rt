@@ -1,5 +1,8 @@
 // Whether a value of Z[ω] is its own remainder modulo q, decided without a division.
 // It reduces nothing.
+
+#![tactic(auto)]
+
 ghost use Rattle.std.specs.Prelude.{◌≡◌, not, ◌&&◌, ◌≢◌, ◌≤◌, ◌^◌, nat_abs};
 ghost use Rattle.eisenstein.specs.Values.{value, 𝟘, same};
 ghost use Rattle.eisenstein.specs.Reduction.{mod_q};

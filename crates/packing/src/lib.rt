@@ -1,5 +1,8 @@
 // Message bytes as polynomials, and back: what packing and unpacking are, the lengths of a message, its spare bits, and one coefficient of it.
 // It answers no call, and seals and opens nothing.
+
+#![tactic(auto)]
+
 ghost use Rattle.std.specs.Prelude.{◌≡◌, ◌&&◌, eqb};
 ghost use Rattle.eisenstein.specs.Values.{value};
 ghost use Rattle.arrays.specs.Arrays.{full};

@@ -1,5 +1,8 @@
 // Whether two parameter sets are the same.
 // It checks no set: any two are compared, accepted or not.
+
+#![tactic(auto)]
+
 ghost use Rattle.std.specs.Prelude.{◌≡◌};
 ghost use Rattle.parameters.specs.Sets.{set_of};
 ghost use Rattle.parameter_comparison.specs.Comparison.{same_set};

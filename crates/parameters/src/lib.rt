@@ -1,6 +1,9 @@
 // The parameter set of the scheme, with its limits and a maker that refuses.
 // It chooses no set, and knows no array.
 // Every operation on a parameter set begins with `check`, so none relies on how its set was made.
+
+#![tactic(auto)]
+
 ghost use Rattle.std.specs.Prelude.{◌≡◌, false, not, ◌&&◌, ◌||◌, ◌+◌, ◌*◌, ◌%◌, ◌≤◌, ltb, eqb};
 ghost use Rattle.refusals.specs.Outcomes.{outcome};
 ghost use Rattle.refusals.specs.Numbers.{answered};
@@ -11,7 +14,7 @@ ghost use Rattle.parameters.specs.Sets.{set, set_of, outside, even, parameter_ch
 use refusals::{Answer, Refusal};
 
 // N coefficients, the modulus q = (c, d), s nonzero coefficients of g and of the ephemeral φ, t of f.
-#[derive(Drop)]
+#[derive(Clone, Copy)]
 pub struct Parameters {
     pub n: u32,
     pub c: i32,
@@ -20,7 +23,7 @@ pub struct Parameters {
     pub t: u32,
 }
 
-#[derive(Drop)]
+#[derive(Clone, Copy)]
 pub enum Made {
     Accepted(Parameters),
     Refused(Refusal),

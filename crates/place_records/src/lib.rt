@@ -1,6 +1,9 @@
 // The calls on a lent list of places: each takes the records apart and hands their numbers on.
 // They refuse nothing themselves, and end as `place_spreading` and `place_sealing` do.
 // At every N `seal_places` takes at most 36 KiB of stack, and `spread_places` 28 KiB.
+
+#![tactic(auto)]
+
 ghost use Rattle.std.specs.Prelude.{◌≡◌, ◌⊎◌, ◌≤◌, length, replicate};
 ghost use Rattle.refusals.specs.Outcomes.{number, Gives};
 ghost use Rattle.refusals.specs.Numbers.{answered};

@@ -1,5 +1,8 @@
 // Sealing from a list of places, from the list's numbers: what `sealing` gives with the array that the list spreads to.
 // It ends with `Done`, or with document 02's first refusal that applies, and then its output is as it came.
+
+#![tactic(auto)]
+
 ghost use Rattle.std.specs.Prelude.{length};
 ghost use Rattle.refusals.specs.Outcomes.{number, Gives};
 ghost use Rattle.refusals.specs.Numbers.{answered};

@@ -1,6 +1,9 @@
 // Spreading: a list of places to the full array of its ephemeral, from the list's numbers.
 // It seals nothing.
 // It ends with `Done`, or with document 02's first refusal that applies, and then its output is as it came.
+
+#![tactic(auto)]
+
 ghost use Rattle.std.specs.Prelude.{length};
 ghost use Rattle.refusals.specs.Outcomes.{number, Gives};
 ghost use Rattle.refusals.specs.Numbers.{answered};

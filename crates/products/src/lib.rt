@@ -1,6 +1,9 @@
 // Products of arrays, reduced: the product with an array of zeros and units, modulo q and modulo 2.
 // What an array stands for in the scheme is not this crate's business.
-// No function relies on its caller: each asks of its arrays at least what its arithmetic needs.
+// No function relies on its caller: each asks of its arrays what its arithmetic needs.
+
+#![tactic(auto)]
+
 ghost use Rattle.std.specs.Prelude.{◌&&◌, length};
 ghost use Rattle.eisenstein.specs.Values.{value};
 ghost use Rattle.eisenstein.specs.Reduction.{mod_q, mod2};
@@ -35,13 +38,14 @@ pub fn multiply_units_modulo_q(
     true
 }
 
-// The same modulo 2, by classes. They need nothing of the numbers; what is asked stayed, so that both products are formed of the same operands.
+// The same modulo 2.
 pub fn multiply_units_modulo_2(n: u32, x: &[i32], y: &[i32], out: &mut [i32]) -> bool
     ensures { Forms (multipliable n x.now y.now (length out.old))
         (array n (λ i. mod2 (convolution n (coefficient x.now) (coefficient y.now) i))) result out.old out.new }
 {
-    if !unit_operands::multipliable(n, x, y, out.len()) {
+    if !multiply_units(n, x, y, out) {
         return false;
     }
-    class_products::multiply_modulo_2(n, x, y, out)
+    reductions::reduce_all_2(out, n as usize);
+    true
 }

@@ -1,9 +1,12 @@
 // The refusals of documents 01 and 02, each with its number. Which condition is tested where, and in what order, is in the crates of the calls.
+
+#![tactic(auto)]
+
 ghost use Rattle.std.specs.Prelude.{◌≡◌, [], ◌∷◌};
 ghost use Rattle.refusals.specs.Numbers.{number_of, answered};
 ghost use Rattle.refusals.specs.Outcomes.{number, outcome, first, ◌if◌};
 
-#[derive(Drop)]
+#[derive(Clone, Copy)]
 pub enum Refusal {
     CoefficientCountOutOfRange,
     ModulusPartOutOfRange,
@@ -82,7 +85,7 @@ impl Refusal {
 }
 
 // What a call answers that writes its result to lent outputs.
-#[derive(Drop)]
+#[derive(Clone, Copy)]
 pub enum Answer {
     Done,
     Refused(Refusal),

@@ -1,5 +1,8 @@
 // One value of Z[ω] reduced modulo q, with its refusals, and its remainder stored in an array.
 // Whether a value is its own remainder is not asked here: that needs no division.
+
+#![tactic(auto)]
+
 ghost use Rattle.std.specs.Prelude.{◌≡◌, cond, ◌≢◌, ◌≤◌, ◌^◌, pos, nat_abs, ◌+ℤ◌, ◌-ℤ◌, ◌<ℤ◌};
 ghost use Rattle.std.specs.Int.Signed.{shr_z};
 ghost use Rattle.refusals.specs.Outcomes.{written, Passes};
@@ -24,7 +27,7 @@ fn floor_quotient(x: i64, n: i64) -> i64
 }
 
 // A value that may be the remainder, and its norm less that of the first corner.
-#[derive(Drop)]
+#[derive(Clone, Copy)]
 struct Candidate {
     a: i64,
     b: i64,

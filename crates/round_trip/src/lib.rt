@@ -2,6 +2,9 @@
 // It uses only the public contracts of the three calls, and adds nothing to the library.
 // Any key that is accepted, any ephemeral of its set and any message come back as exactly that message, with no refusal,
 // and two messages that are sealed to equal arrays are equal.
+
+#![tactic(auto)]
+
 ghost use Rattle.std.specs.Prelude.{◌≡◌, length};
 ghost use Rattle.refusals.specs.Outcomes.{Gives, number, written};
 ghost use Rattle.refusals.specs.Numbers.{answered};

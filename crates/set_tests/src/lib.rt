@@ -1,6 +1,9 @@
 // The tests of an array that its sets are made of: so many units, units in whole triples, and being reduced modulo 2 and modulo q.
 // It knows no parameter set, and refuses nothing.
 // No function relies on a length, on N or on a modulus.
+
+#![tactic(auto)]
+
 ghost use Rattle.std.specs.Prelude.{◌≡◌, not, ◌&&◌, leb, length};
 ghost use Rattle.eisenstein.specs.Values.{value, 𝟘, same};
 ghost use Rattle.eisenstein.specs.Calls.{beyond};

@@ -1,5 +1,8 @@
 // Short messages: their lengths, the bits that a message is made of, and where a message ends as a short one.
 // It seals and opens nothing, and refuses nothing.
+
+#![tactic(auto)]
+
 ghost use Rattle.std.specs.Prelude.{◌≡◌, ◌*◌, length, replicate};
 ghost use Rattle.packing.specs.Messages.{bit_of, byte, listed};
 ghost use Rattle.short_messages.specs.ShortMessages.{too_long, longest_short, padded_bit, last_one};
@@ -7,7 +10,7 @@ ghost use Rattle.short_messages.specs.ShortMessages.{too_long, longest_short, pa
 use packing::{bit_of, message_bytes};
 
 // Where the last 1 of some bits stands, counted from 0, or that there is none.
-#[derive(Drop)]
+#[derive(Clone, Copy)]
 pub enum LastOne {
     At(usize),
     Nowhere,

@@ -1,6 +1,9 @@
 // Opening a sealed array as a short message: its bytes and its length.
 // It ends with the length, or with the first refusal that applies. Bytes of its output past that length, and all of them after a refusal, are as they came.
 // At every N it takes less than 28 KiB of stack.
+
+#![tactic(auto)]
+
 ghost use Rattle.std.specs.Prelude.{◌≡◌, length};
 ghost use Rattle.refusals.specs.Outcomes.{Passes};
 ghost use Rattle.parameters.specs.Sets.{set_of, parameter_checks};

@@ -1,5 +1,8 @@
 // Sets of stop numbers, as bits of words, and whether a stop occurs twice in a list.
 // It knows no file, and refuses nothing.
+
+#![tactic(auto)]
+
 ghost use Rattle.std.specs.Prelude.{◌≡◌, replicate};
 ghost use Rattle.stop_sets.specs.Stops.{any_twice};
 ghost use Rattle.stop_sets.specs.Words.{has, with};

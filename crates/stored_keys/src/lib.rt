@@ -1,5 +1,8 @@
 // The key check of a private file's numbers: f, F2, Fq and g, one after another as they are stored.
 // It reads no file, and gives the public key to nobody.
+
+#![tactic(auto)]
+
 ghost use Rattle.std.specs.Prelude.{◌≡◌, ◌*◌, ◌≤◌, length};
 ghost use Rattle.refusals.specs.Outcomes.{number, Passes};
 ghost use Rattle.refusals.specs.Numbers.{answered};

@@ -1,5 +1,8 @@
 // Numbers as they are stored, two bytes each: read from bytes, and written to them.
 // It knows no file and no parameter set. A call answers whether it could, and writes nothing otherwise.
+
+#![tactic(auto)]
+
 ghost use Rattle.std.specs.Prelude.{◌≡◌, ◌&&◌, ◌*◌, eqb, length};
 ghost use Rattle.arrays.specs.Arrays.{all_small};
 ghost use Rattle.unit_operands.specs.Operands.{Forms};

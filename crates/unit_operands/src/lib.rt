@@ -1,5 +1,8 @@
 // The operands of the product with an array of zeros and units: what is asked of them, and the second of them laid out twice.
 // It forms no product.
+
+#![tactic(auto)]
+
 ghost use Rattle.std.specs.Prelude.{◌≡◌, ◌++◌, length};
 ghost use Rattle.unit_operands.specs.Operands.{Forms, multipliable, repeatable};
 

@@ -1,6 +1,9 @@
 // The product of an array of zeros and units with another array, by additions alone.
 // It reduces nothing, and what an array stands for in the scheme is not this crate's business.
 // Its one call relies on no caller: what its arithmetic needs of its arrays is asked first, by `unit_operands`. It takes less than 12 KiB of stack at every N.
+
+#![tactic(auto)]
+
 ghost use Rattle.std.specs.Prelude.{length};
 ghost use Rattle.polynomials.specs.Polynomials.{coefficient, array, convolution};
 ghost use Rattle.unit_operands.specs.Operands.{Forms, multipliable};

@@ -2,6 +2,9 @@
 // It reads no file, and does not ask again whether F2 is the inverse of f.
 // It ends with `Done`, or with document 01's first refusal that applies, and then its output is as it came.
 // At every N `open` takes less than 28 KiB of stack.
+
+#![tactic(auto)]
+
 ghost use Rattle.std.specs.Prelude.{length};
 ghost use Rattle.refusals.specs.Outcomes.{number, Gives};
 ghost use Rattle.refusals.specs.Numbers.{answered};

@@ -1,5 +1,8 @@
 // The refusals of opening: the first that applies, in document 01's order.
 // It opens nothing, and does not ask whether F2 is the inverse of f.
+
+#![tactic(auto)]
+
 ghost use Rattle.std.specs.Prelude.{◌≡◌, ◌++◌};
 ghost use Rattle.refusals.specs.Outcomes.{outcome};
 ghost use Rattle.refusals.specs.Numbers.{answered};

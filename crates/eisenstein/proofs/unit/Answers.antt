@@ -11,8 +11,7 @@ use Rattle.integers.proofs.Tests.{every, every_at}
 use Rattle.eisenstein.specs.Values.{value, unit, same, same_ℤ}
 use Rattle.eisenstein.specs.declared.Pair.{Pair}
 use Rattle.eisenstein.proofs.Equality.{same_yes}
-use Rattle.eisenstein.proofs.unit.Statement.{statement}
-use Rattle.eisenstein.proofs.unit.Tie as tie
+use Rattle.eisenstein.proofs.unit.Goals as goal
 
 abbrev pair : ℤ → ℤ → Pair
 pair a b = record { a = a; b = b }
@@ -31,11 +30,6 @@ all_entries : T (every right 6)
 unfolding right same same_ℤ unit
 all_entries = tt
 
-pub unit_spec : {M : Type 1} → statement M
+pub returns : goal.returns
 unfolding right
-unit_spec =
-    tie.close
-    (tie.spec
-    (λ c. search rules)
-    (λ c. search rules)
-    (λ c. same_yes _ (unit (c.before.args.number % 6)) (every_at right 6 all_entries (c.before.args.number % 6) (omega arith))))
+returns c = same_yes _ (unit (c.args.number % 6)) (every_at right 6 all_entries (c.args.number % 6) (omega arith))
