@@ -35,7 +35,7 @@ use Rattle.polynomials.proofs.Members.{at_all, all_at, units-within, reduced_q_a
 -- ---- a number as it is handed to a callee
 
 pub read_64 : (z : ℤ) {m : ℕ} → nat_abs z ≤ m → T (leb m (2 ^ 40)) → to_z w64 (of_z w64 z) ≡ z
-read_64 z h t = to_z-of_z (sfits_within z (le_trans h (lit≤ t)) (lit< tt))
+read_64 z h t = to_z-of_z {w = w64} (sfits_within z (le_trans h (lit≤ t)) (lit< tt))
 
 pub small_64 : (z : ℤ) {m : ℕ} → nat_abs z ≤ m → T (leb m (2 ^ 40)) → nat_abs (to_z w64 (of_z w64 z)) ≤ 2 ^ 40
 small_64 z h t = subst (λ (y : ℤ). nat_abs y ≤ 2 ^ 40) (sym (read_64 z h t)) (le_trans h (lit≤ t))

@@ -9,4 +9,4 @@ use mir.Facts.{to_z-of_z}
 use Rattle.integers.proofs.Machine.{sfits_within}
 
 pub read_32 : (z : ℤ) → nat_abs z ≤ 32768 → to_z w32 (of_z w32 z) ≡ z
-read_32 z h = to_z-of_z (sfits_within z h (lit< tt))
+read_32 z h = to_z-of_z {w = w32} (sfits_within z h (lit< tt))

@@ -1,0 +1,38 @@
+-- `pack` meets its contract.
+use mathlib.Core.Path.{sym, ◌∙◌, ap}
+use mathlib.Core.List.{List}
+use borrow.Author.Rules.{rules}
+use lib.IntN.{ℤ}
+use lib.ListN.{length}
+use Rattle.refusals.specs.Outcomes.{Check, Passes}
+use Rattle.refusals.specs.Numbers.{answered}
+use Rattle.refusals.proofs.Checks.{gives_done, gives_refused}
+use Rattle.polynomials.specs.Polynomials.{array}
+use Rattle.packing.specs.Messages.{packed}
+use Rattle.message_packing.specs.Calls.{packing_checks, packing}
+use Rattle.message_packing.proofs.Passed.{packing_passed}
+use Rattle.message_packing.proofs.pack.Goals as goal
+use Rattle.message_packing.proofs.pack.Goals.{Start}
+
+abbrev checks : Start → List Check
+checks s = packing_checks s.args.n s.args.message.now (length s.args.m.now)
+
+abbrev value_of : Start → List ℤ
+value_of s = array s.args.n (packed s.args.message.now)
+
+pub pack_into-requires : goal.pack_into-requires
+unfolding packing
+pack_into-requires c = 
+    let all_passed : Passes (checks (goal.at.pack_into-requires c).Start) = sym c.packing_refusal.ensures ∙ ap answered c.in-Done.is in
+    let k = packing_passed c.args.n c.args.message.now (length c.args.m.now) (all_passed) in
+    (k.0, k.2)
+
+pub returns-in-Done : goal.returns-in-Done
+unfolding packing
+returns-in-Done c = 
+    let all_passed : Passes (checks (goal.at.returns-in-Done c).Start) = sym c.packing_refusal.ensures ∙ ap answered c.in-Done.is in
+    gives_done (checks (goal.at.returns-in-Done c).Start) (value_of (goal.at.returns-in-Done c).Start) c.args.m.now _ (all_passed) c.pack_into.ensures
+
+pub returns-in-Refused : goal.returns-in-Refused
+unfolding packing
+returns-in-Refused c = gives_refused (checks (goal.at.returns-in-Refused c).Start) (value_of (goal.at.returns-in-Refused c).Start) c.args.m.now _ (sym c.packing_refusal.ensures ∙ ap answered c.in-Refused.is)
