@@ -5,5 +5,5 @@ use Rattle.eisenstein.specs.Calls.{beyond}
 
 -- a modulus in range and not zero
 pub record Modulus (q : ℤ[ω]) : Type 0 where
-  pub in_range_lem : beyond 4095 q ≡ false
+  pub in_range : beyond 4095 q ≡ false
   pub not_zero : q ≢ 𝟘

@@ -131,16 +131,16 @@ module _ (q x : ℤ[ω]) (nonzero : q ≢ 𝟘) where
       go (no h) = smaller_norm (omega (arith, mod_q-norm))
 
 pub mod_q_is_remainder : ModQIsRemainder
-mod_q_is_remainder q x h = record { in_class = mod_q_in_class q x h; as_good_lem = rival q x h }
+mod_q_is_remainder q x h = record { in_class = mod_q_in_class q x h; as_good = rival q x h }
 
 pub remainder_unique : RemainderUnique
-remainder_unique q x r s h k = as_good_antisym (h.as_good_lem s k.in_class) (k.as_good_lem r h.in_class)
+remainder_unique q x r s h k = as_good_antisym (h.as_good s k.in_class) (k.as_good r h.in_class)
 
 -- the values of a class have the same remainder
 pub remainder_of_class : (q x y r : ℤ[ω]) → Congruent q x y → Remainder q y r → Remainder q x r
 remainder_of_class q x y r c h = record {
   in_class = congruent_trans c h.in_class;
-  as_good_lem = λ s d. h.as_good_lem s (congruent_trans (congruent_sym c) d);
+  as_good = λ s d. h.as_good s (congruent_trans (congruent_sym c) d);
 }
 
 pub mod_q_by_class : (q x r : ℤ[ω]) → q ≢ 𝟘 → Congruent q x r → Remainder q r r → mod_q q x ≡ r
@@ -164,7 +164,7 @@ unfolding ◌+ω◌ ◌-ω◌
 difference = ringω 2 (λ x y. (x ⊞ y) ⊟ x ≐ y) tt
 
 pub small_is_remainder : SmallIsRemainder
-small_is_remainder q x h = record { in_class = congruent_refl q x; as_good_lem = good }
+small_is_remainder q x h = record { in_class = congruent_refl q x; as_good = good }
   where
     far : (s z : ℤ[ω]) → x ≡ s +ω q *ω z → norm z ≢ 0 → AsGood x s
     far s z e f =

@@ -13,7 +13,7 @@ pub data AsGood (r s : ℤ[ω]) : Type 0 where
 -- r is the remainder of x modulo q:
 pub record Remainder (q x r : ℤ[ω]) : Type 0 where
   pub in_class : Congruent q x r
-  pub as_good_lem : (s : ℤ[ω]) → Congruent q x s → AsGood r s
+  pub as_good : (s : ℤ[ω]) → Congruent q x s → AsGood r s
 
 -- The remainder, computed: the best of the four values x − q·k whose k is a corner of the unit cell of Z[ω] that holds x/q.
 -- x/q is x·conj(q) divided by the norm of q; shr_z divides by a natural number and rounds down.

@@ -128,7 +128,7 @@ module _ {p : ParameterSet} {f F2 Fq g h : List ℤ} (accepted : AcceptedKey p f
         ∙ holds_passed 7 (eqb (length message) (message_bytes p.N) && (full p.N (length h) && (full p.N (length φ) && full p.N (2 * p.N)))) _ _
         (equal_4 {d = 2 * p.N} msg.full h_full ephemeral.full refl)
         ∙ holds_passed 12 (reduced_q p.N p.q (coefficient h)) _ _ h_reduced
-        ∙ holds_passed 10 (whole_triples p.N p.s (coefficient φ)) _ _ ephemeral.in_set_lem
+        ∙ holds_passed 10 (whole_triples p.N p.s (coefficient φ)) _ _ ephemeral.in_set
         ∙ passed 15 _ _ (is_unset (spare_bit_set p.N message) msg.no_spare)
         ∙ none_left _
 
@@ -139,7 +139,7 @@ module _ {p : ParameterSet} {f F2 Fq g h : List ℤ} (accepted : AcceptedKey p f
       bound = key.parameters.below;
       f_units = key.f_units;
       g_units = triples_units p.N p.s (coefficient g) key.g_units;
-      φ_units = triples_units p.N p.s (coefficient φ) ephemeral.in_set_lem;
+      φ_units = triples_units p.N p.s (coefficient φ) ephemeral.in_set;
       m_reduced = packed_reduced p.N message;
       inverse_2 = congruent2_at p.N (convolution p.N (coefficient f) (coefficient F2)) one key.inverse_2;
       inverse_q = congruent_q_at p.N p.q (convolution p.N (coefficient f) (coefficient Fq)) one q≢0 key.inverse_q;

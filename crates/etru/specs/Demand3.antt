@@ -15,7 +15,7 @@ pub record AcceptedKey (p : ParameterSet) (f F2 Fq g h : List ℤ) : Type 0 wher
 -- "any φ of its set"
 pub record Ephemeral (p : ParameterSet) (φ : List ℤ) : Type 0 where
   pub full : length φ ≡ 2 * p.N
-  pub in_set_lem : T (whole_triples p.N p.s (coefficient φ))
+  pub in_set : T (whole_triples p.N p.s (coefficient φ))
 
 -- "any message: N/4 bytes, rounded up, with the spare bits zero"
 pub record Message (p : ParameterSet) (message : List ℕ) : Type 0 where

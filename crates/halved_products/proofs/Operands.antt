@@ -34,7 +34,7 @@ convolving_passed p x y out e =
     let r = and_yes (reduced_q p.N p.q (coefficient x)) (reduced_q p.N p.q (coefficient y)) k12.0 in
     record {
       N_small = a.N_small;
-      modulus = record { in_range_lem = a.q_small; not_zero = z };
+      modulus = record { in_range = a.q_small; not_zero = z };
       x_long = l.0;
       y_long = l.1;
       out_long = l.2;

@@ -21,7 +21,7 @@ file_checks kind file = reading_checks kind file (file_numbers kind (head_of fil
 
 -- "then 20, 13, 14": of a private file's parameters and numbers f, F2, Fq, g, and a sealed file's parameters
 unfoldable pub inverse_checks : ParameterSet → List ℤ → List Check
-inverse_checks p numbers = etru.inverseChecks p (array_at p 0 numbers) (array_at p 1 numbers) (array_at p 2 numbers)
+inverse_checks p numbers = etru.inverse_checks p (array_at p 0 numbers) (array_at p 1 numbers) (array_at p 2 numbers)
 
 unfoldable pub pair_checks : ParameterSet → List ℤ → ParameterSet → List Check
 pair_checks p numbers p' = 20 if not (same_set p p') ∷ inverse_checks p numbers

@@ -325,7 +325,7 @@ module _ (q r : ℤ[ω]) (nonzero : q ≢ 𝟘) where
       (λ f. subst T e
       (subst (λ (n : ℕ). T (test_by q r k n)) (neighbour_norm k h)
       (good_test r (q *ω unit k)
-      (subst (λ (s : ℤ[ω]). AsGood s (r -ω q *ω unit k)) f ((mod_q_is_remainder q r nonzero).as_good_lem (r -ω q *ω unit k) (less_multiple q r (unit k)))))))
+      (subst (λ (s : ℤ[ω]). AsGood s (r -ω q *ω unit k)) f ((mod_q_is_remainder q r nonzero).as_good (r -ω q *ω unit k) (less_multiple q r (unit k)))))))
 
   module _ (good : (k : ℕ) → k < 6 → T (tested q r k)) where
     as_good_lem : (k : ℕ) → k < 6 → AsGood r (r -ω q *ω unit k)
@@ -369,7 +369,7 @@ module _ (q r : ℤ[ω]) (nonzero : q ≢ 𝟘) where
 
     -- three times the norm of its remainder is too, so the two differ by q times zero or a unit, and r is as good as those
     own : mod_q q r ≡ r
-    own = as_good_antisym (m.as_good_lem r (congruent_refl q r)) (subst (AsGood r) (sym (in_class_is c)) (near (dec_le (norm z) 1)))
+    own = as_good_antisym (m.as_good r (congruent_refl q r)) (subst (AsGood r) (sym (in_class_is c)) (near (dec_le (norm z) 1)))
       where
         m : Remainder q r (mod_q q r)
         m = mod_q_is_remainder q r nonzero

@@ -55,7 +55,7 @@ sealing_from_places p h places message room ok =
     same_first (parameter_checks p) _ _ _ _ (λ accepted.
     ap (λ (t : Bool). outcome (7 if not t ∷ 12 if not (reduced_q p.N p.q (coefficient h)) ∷ place_checks p places ++ (15 if spare_bit_set p.N message ∷ [])) (array p.N (sealed p (coefficient h) (spread places) (packed message)))) lengths
     ∙ behind 7 _ _ _ _ _ (behind 12 _ _ _ _ _
-    (passed 23 _ _ (is_unset (any_out_of_range p.N places) ok.in_range_lem) ∙ passed 24 _ _ (is_unset (any_place_twice places) ok.once)
+    (passed 23 _ _ (is_unset (any_out_of_range p.N places) ok.in_range) ∙ passed 24 _ _ (is_unset (any_place_twice places) ok.once)
     ∙ ap₂ (λ (t : Bool) (e : List ℤ). outcome (10 if not t ∷ 15 if spare_bit_set p.N message ∷ []) e) (array_in_set p.N p.s (spread places)) (same-sealed p (coefficient h) (packed message) (agrees p.N (spread places))))))
   where
     lengths : (eqb (length message) (message_bytes p.N) && (eqb (length places) p.s && (full p.N (length h) && full p.N room)))
@@ -133,16 +133,16 @@ holds_not : (t : Bool) → t ≡ false → T (not t)
 holds_not t e = subst T (sym (ap not e)) tt
 
 pub placed : (p : ParameterSet) (places : List PlacedUnit) → PlacedEphemeral p places → Ephemeral p (array p.N (spread places))
-placed p places ok = record { full = array_length p.N (spread places); in_set_lem = subst T (array_in_set p.N p.s (spread places)) ok.in_set_lem }
+placed p places ok = record { full = array_length p.N (spread places); in_set = subst T (array_in_set p.N p.s (spread places)) ok.in_set }
 
 pub spreading_accepts : SpreadingAccepts
 unfolding spreading spreading_checks
 spreading_accepts p places accepted ok =
     passed_all (parameter_checks p) _ _ accepted
     ∙ holds_passed 7 (eqb (length places) p.s && full p.N (2 * p.N)) _ _ (equal_2 {b = 2 * p.N} ok.spreadable.records refl)
-    ∙ passed 23 _ _ (is_unset (any_out_of_range p.N places) ok.spreadable.in_range_lem)
+    ∙ passed 23 _ _ (is_unset (any_out_of_range p.N places) ok.spreadable.in_range)
     ∙ passed 24 _ _ (is_unset (any_place_twice places) ok.spreadable.once)
-    ∙ holds_passed 10 (whole_triples p.N p.s (spread places)) _ _ ok.in_set_lem
+    ∙ holds_passed 10 (whole_triples p.N p.s (spread places)) _ _ ok.in_set
     ∙ none_left _
 
 pub sealing_accepts : SealingAccepts
@@ -152,9 +152,9 @@ sealing_accepts p h places message accepted h_full h_reduced ok msg =
     ∙ holds_passed 7 (eqb (length message) (message_bytes p.N) && (eqb (length places) p.s && (full p.N (length h) && full p.N (2 * p.N)))) _ _
     (equal_4 {a = length message} {b = length places} {c = length h} {d = 2 * p.N} msg.full ok.spreadable.records h_full refl)
     ∙ holds_passed 12 (reduced_q p.N p.q (coefficient h)) _ _ h_reduced
-    ∙ passed 23 _ _ (is_unset (any_out_of_range p.N places) ok.spreadable.in_range_lem)
+    ∙ passed 23 _ _ (is_unset (any_out_of_range p.N places) ok.spreadable.in_range)
     ∙ passed 24 _ _ (is_unset (any_place_twice places) ok.spreadable.once)
-    ∙ holds_passed 10 (whole_triples p.N p.s (spread places)) _ _ ok.in_set_lem
+    ∙ holds_passed 10 (whole_triples p.N p.s (spread places)) _ _ ok.in_set
     ∙ passed 15 _ _ (is_unset (spare_bit_set p.N message) msg.no_spare)
     ∙ none_left _
 
@@ -164,7 +164,7 @@ passed_places p places later a b s-records e =
     let c23 = done_passed 23 (any_out_of_range p.N places) _ a b e in
     let c24 = done_passed 24 (any_place_twice places) _ a b c23.1 in
     let c10 = done_holds 10 (whole_triples p.N p.s (spread places)) _ a b c24.1 in
-    (record { spreadable = record { records = s-records; in_range_lem = holds_not _ c23.0; once = holds_not _ c24.0 }; in_set_lem = c10.0 }, c10.1)
+    (record { spreadable = record { records = s-records; in_range = holds_not _ c23.0; once = holds_not _ c24.0 }; in_set = c10.0 }, c10.1)
 
 pub spreading_accepted : SpreadingAccepted
 unfolding spreading spreading_checks
@@ -193,10 +193,10 @@ every_ephemeral_has_places p φ ephemeral = record {
   accepted = record {
     spreadable = record {
       records = places_length x p.N ∙ units-count p.N p.s x units_there;
-      in_range_lem = holds_not _ (places_in_range x p.N each p.N (omega arith));
+      in_range = holds_not _ (places_in_range x p.N each p.N (omega arith));
       once = holds_not _ (places_once x p.N);
     };
-    in_set_lem = subst T (sym (triples_same p.N agree p.s)) ephemeral.in_set_lem;
+    in_set = subst T (sym (triples_same p.N agree p.s)) ephemeral.in_set;
   };
   spreads = array_same p.N agree ∙ array_coefficients p.N φ ephemeral.full;
 }
@@ -208,7 +208,7 @@ every_ephemeral_has_places p φ ephemeral = record {
     places = places_below x p.N
 
     units_there : T (units_only p.N p.s x)
-    units_there = triples_units p.N p.s x ephemeral.in_set_lem
+    units_there = triples_units p.N p.s x ephemeral.in_set
 
     each : (i : ℕ) → i < p.N → T (not (nonzero (x i)) || among units (x i))
     each = each_coefficient p.N p.s x units_there

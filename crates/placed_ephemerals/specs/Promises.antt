@@ -15,7 +15,7 @@ use Rattle.placed_ephemerals.specs.Calls.{spreading_checks, spreading, places_se
 -- A list of s records that 23 and 24 do not refuse.
 pub record Spreadable (p : ParameterSet) (places : List PlacedUnit) : Type 0 where
   pub records : length places ≡ p.s
-  pub in_range_lem : T (not (any_out_of_range p.N places))
+  pub in_range : T (not (any_out_of_range p.N places))
   pub once : T (not (any_place_twice places))
 
 -- "Sealing from this list must give what sealing from the full array gives": of such a list the same number and the same output, whatever the other arguments are.
@@ -46,7 +46,7 @@ SealingOrderOpen = (p : ParameterSet) (h : List ℤ) (places places' : List Plac
 -- A list that no check refuses.
 pub record PlacedEphemeral (p : ParameterSet) (places : List PlacedUnit) : Type 0 where
   pub spreadable : Spreadable p places
-  pub in_set_lem : T (whole_triples p.N p.s (spread places))
+  pub in_set : T (whole_triples p.N p.s (spread places))
 
 -- Both calls accept these lists, sealing with every h that is reduced, and no others; and the array of an accepted list is in the set of φ.
 abbrev pub SpreadingAccepts : Type 0

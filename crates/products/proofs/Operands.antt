@@ -25,7 +25,7 @@ pub modulus_of : (q : ℤ[ω]) → usable q ≡ true → Modulus q
 unfolding usable
 modulus_of q h =
     let a = and_yes (not (beyond 4095 q)) (not (same q 𝟘)) (subst T (sym h) tt) in
-    record { in_range_lem = negated (beyond 4095 q) a.0; not_zero = λ e. subst (λ (t : Bool). T (not t)) (same_true e) a.1 }
+    record { in_range = negated (beyond 4095 q) a.0; not_zero = λ e. subst (λ (t : Bool). T (not t)) (same_true e) a.1 }
   where
     negated : (t : Bool) → T (not t) → t ≡ false
     negated true k = absurd k
@@ -33,4 +33,4 @@ modulus_of q h =
 
 -- within the limits nothing is refused
 pub remainder_of_lem : (q x : ℤ[ω]) → Modulus q → nat_abs x.a ≤ 2 ^ 40 → nat_abs x.b ≤ 2 ^ 40 → written (reduce_q q x) 𝟘 ≡ mod_q q x
-remainder_of_lem q x m a b = remainder_is q x m.in_range_lem m.not_zero (not_beyond (2 ^ 40) x a b)
+remainder_of_lem q x m a b = remainder_is q x m.in_range m.not_zero (not_beyond (2 ^ 40) x a b)

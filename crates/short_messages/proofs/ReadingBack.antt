@@ -15,7 +15,7 @@ use Rattle.packing.proofs.RoundTrips.{bit_of_lt, listed_length, listed_at, liste
 use Rattle.short_messages.specs.declared.LastOne.{LastOne}
 use Rattle.short_messages.specs.declared.LastOne.TheVariants.{At, Nowhere}
 use Rattle.short_messages.specs.ShortMessages.{padded_bit, padded, last_one, ends_no_short, not_short, bytes_before, short_of}
-use Rattle.short_messages.specs.Promises.{Short, LongestIsLargest, PaddedBits, PaddedBits_lem, PaddedWhole, PaddedReads, PaddedDistinct, ReadFromJustOne}
+use Rattle.short_messages.specs.Promises.{Short, LongestIsLargest, PaddedBits, PaddedBitsHold, PaddedWhole, PaddedReads, PaddedDistinct, ReadFromJustOne}
 use Rattle.short_messages.proofs.LastOnes.{last_is, Last, last_known}
 use Rattle.short_messages.proofs.PaddedBits.{own_bit, one_bit, zero_bit, padded_lt, own_byte}
 
@@ -34,7 +34,7 @@ padded-bit : (N : ℕ) (short : List ℕ) (k : ℕ) → k < 8 * message_bytes N 
 unfolding padded
 padded-bit N short k l = listed-bit (message_bytes N) (padded_bit short) (padded_lt short) k l
 
-pub padded_bits : PaddedBits_lem
+pub padded_bits : PaddedBitsHold
 padded_bits N short s = record {
   own = λ k l. padded-bit N short k (omega (arith, s.fits)) ∙ own_bit short k l;
   one = padded-bit N short (8 * length short) (omega (arith, s.fits)) ∙ one_bit short (8 * length short) refl;

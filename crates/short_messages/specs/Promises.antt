@@ -19,8 +19,8 @@ pub record PaddedBits (N : ℕ) (short : List ℕ) : Type 0 where
   pub one : bit_of (padded N short) (8 * length short) ≡ 1
   pub zeros : (k : ℕ) → 8 * length short < k → k < 2 * N → bit_of (padded N short) k ≡ 0
 
-abbrev pub PaddedBits_lem : Type 0
-PaddedBits_lem = (N : ℕ) (short : List ℕ) → Short N short → PaddedBits N short
+abbrev pub PaddedBitsHold : Type 0
+PaddedBitsHold = (N : ℕ) (short : List ℕ) → Short N short → PaddedBits N short
 
 -- They are a message: N/4 bytes, rounded up, with the spare bits zero.
 abbrev pub PaddedWhole : Type 0

@@ -15,7 +15,7 @@ pub data Row : Type 0 where
   norm-is : (x : ℤ[ω]) → ℕ → Row
   refusal : ParameterSet → ℕ → Row  -- the set meets this refusal; 0: it is accepted
   bound-is : ParameterSet → ℕ → Row  -- 4 × (2s + t)²
-  public_key_lem : ParameterSet → (f F2 Fq g h : List ℤ) → Row
+  public_key_of : ParameterSet → (f F2 Fq g h : List ℤ) → Row
   seals : ParameterSet → (h φ : List ℤ) → (message : List ℕ) → (e : List ℤ) → Row
   opens : ParameterSet → (f F2 e : List ℤ) → (message : List ℕ) → Row
   stored : ℕ → ParameterSet → (numbers : List ℤ) → (file : List ℕ) → Row  -- a file of a kind, written and read
@@ -27,7 +27,7 @@ Holds (remainder_2 x r) = mod2 x ≡ r
 Holds (norm-is x n) = norm x ≡ n
 Holds (refusal p n) = number (parameters p) ≡ n
 Holds (bound-is p n) = bound p ≡ n
-Holds (public_key_lem p f F2 Fq g h) = key_check p f F2 Fq g (2 * p.N) ≡ done h
+Holds (public_key_of p f F2 Fq g h) = key_check p f F2 Fq g (2 * p.N) ≡ done h
 Holds (seals p h φ message e) = sealing p h φ message (2 * p.N) ≡ done e
 Holds (opens p f F2 e message) = opening p f F2 e (message_bytes p.N) ≡ done message
 Holds (stored kind p numbers file) = (writing kind p numbers (length file) ≡ done file) × (reading kind file (length numbers) ≡ done numbers)
@@ -98,7 +98,7 @@ rows =
     ∷ refusal (set 3 (pos 15) (pos 0) 3 2) 6
     ∷ bound-is (set 3 (pos 15) (pos 0) 3 2) 256
     -- "f = F2 = Fq = 1; g = φ = (1,0),(0,1),(−1,−1). Then h = g. Message byte B0 hexadecimal seals to (7,0),(−1,5),(−6,−6)." "That opens to B0."
-    ∷ public_key_lem small one one one triple triple
+    ∷ public_key_of small one one one triple triple
     ∷ seals small triple triple (0xb0 ∷ []) sealed
     ∷ opens small one one sealed (0xb0 ∷ [])
     -- "The same sealed array opens to B0 with f having (0,1) at X and F2 having (−1,−1) at X²."

@@ -24,7 +24,7 @@ modulus : (c : tie.After-enum-told) → let p = c.before.before.before.before.be
 modulus c =
     let p = set_of c.before.before.before.before.before.args.p in
     let a = accepted_parameters p (accepted c) in
-    record { in_range_lem = a.q_small; not_zero = modulus_nonzero p a }
+    record { in_range = a.q_small; not_zero = modulus_nonzero p a }
 
 -- the modulus as it is handed on
 read_q : (c : tie.After-enum-told) → let p = c.before.before.before.before.before.args.p in value (to_z w32 (of_z w32 p.c)) (to_z w32 (of_z w32 p.d)) ≡ value p.c p.d

@@ -36,7 +36,7 @@ abbrev tested : ℕ → ℤ[ω] → List ℤ → Bool
 tested n q x = full n (length x) && (not (beyond 4095 q) && (not (same q 𝟘) && reduced_q n q (coefficient x)))
 
 decides : (n : ℕ) (q : ℤ[ω]) (x : List ℤ) → Modulus q → length x ≡ 2 * n → tested n q x ≡ reduced_q n q (coefficient x)
-decides n q x m e = rw (eq-eqb _ _ e, m.in_range_lem, same_false q 𝟘 m.not_zero)
+decides n q x m e = rw (eq-eqb _ _ e, m.in_range, same_false q 𝟘 m.not_zero)
 
 handed : (s : tie.Start) (x : List ℤ) → length x ≡ 2 * s.args.n → tested s.args.n (value (to_z w32 (of_z w32 s.args.c)) (to_z w32 (of_z w32 s.args.d))) x ≡ reduced s x
 handed s x e = ap (λ (q : ℤ[ω]). tested s.args.n q x) (pair_read s.ranges.c s.ranges.d) ∙ decides s.args.n (q s) x s.requires e

@@ -13,7 +13,10 @@ use Rattle.stop_sets.specs.Words.{has}
 use Rattle.stop_sets.proofs.Bits.{added_fits}
 use Rattle.stop_sets.proofs.Sets.{has_already, has_none_past, same-past, with_new}
 use Rattle.stop_sets.proofs.add.Goals as goal
-use Rattle.stop_sets.proofs.add.Goals.{Else-bit_set}
+
+-- the bit, as the machine shifts it to its place
+shifted : (k : ℕ) → k < 32 → 1 * 2 ^ k % 4294967296 ≡ 2 ^ k
+shifted k h = shl_exact {a = 1} 1 k 32 (lit< tt) (omega arith) ∙ one-mul (2 ^ k)
 
 pub returns-then-bit_set : goal.returns-then-bit_set
 unfolding has
@@ -22,11 +25,24 @@ returns-then-bit_set c = let e : has c.args.words.now c.args.stop ≡ true = sym
 
 pub overflow_add-words : goal.overflow_add-words
 unfolding has
-overflow_add-words c = record { fits = fits (goal.at.overflow_add-words c).Else-bit_set }
+overflow_add-words c = 
+    let stop : ℕ = c.args.stop in
+    let words : List ℕ = c.args.words.now in
+    let word : ℕ = get_or words (stop / 32) 0 in
+    let new : has words stop ≡ false = sym c.bit_set.ensures ∙ c.if-bit_set.false in
+    let bit_is : 1 * 2 ^ (stop % 32) % 4294967296 ≡ 2 ^ (stop % 32) = shifted (stop % 32) (omega arith) in
+    let fits : word + 1 * 2 ^ (stop % 32) % 4294967296 < 2 ^ 32 = subst (λ (b : ℕ). word + b < 2 ^ 32) (sym bit_is) (added_fits word (stop % 32) 32 (c.slice_known-then-i-words-1.given (stop / 32)).fits (omega arith) new) in
+    record { fits = fits }
 
 pub returns-else-bit_set : goal.returns-else-bit_set
 unfolding has
-returns-else-bit_set c = (sym (new (goal.at.returns-else-bit_set c).Else-bit_set), ap (λ (b : ℕ). set (words (goal.at.returns-else-bit_set c).Else-bit_set) (stop (goal.at.returns-else-bit_set c).Else-bit_set / 32) (word (goal.at.returns-else-bit_set c).Else-bit_set + b)) (bit_is (goal.at.returns-else-bit_set c).Else-bit_set) ∙ sym (with_new (words (goal.at.returns-else-bit_set c).Else-bit_set) (stop (goal.at.returns-else-bit_set c).Else-bit_set) (new (goal.at.returns-else-bit_set c).Else-bit_set)))
+returns-else-bit_set c = 
+    let words : List ℕ = c.args.words.now in
+    let stop : ℕ = c.args.stop in
+    let word : ℕ = get_or words (stop / 32) 0 in
+    let new : has words stop ≡ false = sym c.bit_set.ensures ∙ c.if-bit_set.false in
+    let bit_is : 1 * 2 ^ (stop % 32) % 4294967296 ≡ 2 ^ (stop % 32) = shifted (stop % 32) (omega arith) in
+    (sym new, ap (λ (b : ℕ). set words (stop / 32) (word + b)) bit_is ∙ sym (with_new words stop new))
 
 pub returns-else-i-words : goal.returns-else-i-words
 unfolding has

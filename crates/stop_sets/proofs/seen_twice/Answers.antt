@@ -11,7 +11,7 @@ loop-k-init c = (omega arith, none_seen c.args.words.now c.args.stops.now (lengt
 
 pub returns-then-add : goal.returns-then-add
 returns-then-add c = 
-    let turn : Turn c.loop-k.words c.args.stops.now c.loop-k.k c.add.result c.add.new.0 = record {
+    let turn : Turn c.loop-k.words c.args.stops.now c.loop-k.k c.add.result c.add.new.words = record {
       positive = c.loop-k-test.true;
       within = c.loop-k.invariant.0;
       seen = c.loop-k.invariant.1;
@@ -19,11 +19,11 @@ returns-then-add c =
       answer = c.add.ensures.0;
       added = c.add.ensures.1;
     } in
-    sym (turn_found _ _ _ _ _ (turn) c.if-add.true)
+    sym (turn_found _ _ _ _ _ turn c.if-add.true)
 
 pub loop-k-preserved : goal.loop-k-preserved
 loop-k-preserved c = 
-    let turn : Turn c.loop-k.words c.args.stops.now c.loop-k.k c.add.result c.add.new.0 = record {
+    let turn : Turn c.loop-k.words c.args.stops.now c.loop-k.k c.add.result c.add.new.words = record {
       positive = c.loop-k-test.true;
       within = c.loop-k.invariant.0;
       seen = c.loop-k.invariant.1;

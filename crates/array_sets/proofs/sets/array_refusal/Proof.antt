@@ -39,7 +39,7 @@ array_refusal_spec =
     c.not-in-set.ensures
     ∙ sym
     (after_7 c.before.before.before
-    ∙ call_refused (not_in_set s.args.which) _ tt c.before.before.in_set_lem.ensures c.before.if2.true))
+    ∙ call_refused (not_in_set s.args.which) _ tt c.before.before.in_set.ensures c.before.if2.true))
     (λ c.
     sym
-    (after_7 c.before.before ∙ call_passed (not_in_set c.before.before.before.args.which) _ tt c.before.in_set_lem.ensures c.if2.false ∙ none_left tt)))
+    (after_7 c.before.before ∙ call_passed (not_in_set c.before.before.before.args.which) _ tt c.before.in_set.ensures c.if2.false ∙ none_left tt)))

@@ -43,7 +43,7 @@ any_out_of_range_spec =
     (λ c.
     let l = c.before.before.before in
     let taken = c.before.before.loop-test.true in
-    let in_range_lem = ap (λ (t : Bool). t || later l (suc l.loop.i)) (sym c.before.out-of-range-at.ensures ∙ c.if1.false) in
+    let in_range = ap (λ (t : Bool). t || later l (suc l.loop.i)) (sym c.before.out-of-range-at.ensures ∙ c.if1.false) in
     (omega (arith, taken), l.loop.invariant.1 ∙ next l taken ∙ in_range_lem ∙ ap (later l) (sym (add-one l.loop.i))))
     (λ c.
     let l = c.before in

@@ -1,0 +1,38 @@
+-- `places_of` meets its contract. The loop's invariant: the places so far are listed.
+use mathlib.Core.Path.{◌≡◌, refl, sym, ◌∙◌, ap₂, subst}
+use mathlib.Core.List.{List}
+use mathlib.Core.Logic.{⊎_elim}
+use Prim.Native.Nat.{ℕ, ◌+◌, ◌-◌, ◌≤◌, ◌<◌}
+use native.Mathlib.Omega.{arith}
+use lib.ListN.{length, set, length-set}
+use lib.Seq.{get_or-set_same}
+use mir.Val.{to_z, of_z}
+use mir.Facts.{to_z-of_z}
+use mir.Syntax.{w32}
+use Rattle.eisenstein.specs.Values.{ℤ[ω], value}
+use Rattle.polynomials.specs.Polynomials.{coefficient}
+use Rattle.unit_products.specs.Rotations.{Places}
+use Rattle.unit_products.proofs.PlacesOf.{places_none, places_kept, places_more, places_same}
+use Rattle.unit_products.proofs.places.places_of.Goals as goal
+use Rattle.unit_products.proofs.places.places_of.Goals.{Start}
+
+-- the unit, as it is handed on and as it was given
+abbrev unit : Start → ℤ[ω]
+unit s = value (to_z w32 (of_z w32 s.args.ua)) (to_z w32 (of_z w32 s.args.ub))
+
+pub loop-j-init : goal.loop-j-init
+loop-j-init c = (omega arith, omega arith, refl, places_none (unit (goal.at.loop-j-init c).Start) (coefficient c.args.x.now) c.args.places.now)
+
+pub loop-j-preserved : goal.loop-j-preserved
+loop-j-preserved c = 
+    let listed : List ℕ = set c.loop-j.places c.loop-j.count c.loop-j.j in
+    let room : c.loop-j.count < length c.loop-j.places = omega (arith, c.loop-j-test.true, c.loop-j.invariant.1, c.loop-j.invariant.2, c.requires) in
+    let x = coefficient c.args.x.now in
+    let e = sym c.coefficient_is.ensures in
+    let taken = c.loop-j-test.true in
+    let kept = places_kept (unit (goal.at.loop-j-preserved c).Start) x c.loop-j.places c.loop-j.j c.loop-j.invariant.3 in
+    let long = length-set c.loop-j.places c.loop-j.count c.loop-j.j ∙ c.loop-j.invariant.2 in
+    ⊎_elim
+    (λ w. (omega (arith, taken), omega (arith, w.1, c.loop-j.invariant.1), long, subst (Places (c.loop-j.j + 1) (unit (goal.at.loop-j-preserved c).Start) x listed) (sym w.1) (places_more (unit (goal.at.loop-j-preserved c).Start) x listed kept (get_or-set_same c.loop-j.places c.loop-j.count c.loop-j.j 0 room) (e ∙ w.0.taken))))
+    (λ w. (omega (arith, taken), omega (arith, w.1, c.loop-j.invariant.1), long, subst (Places (c.loop-j.j + 1) (unit (goal.at.loop-j-preserved c).Start) x listed) (sym w.1) (places_same (unit (goal.at.loop-j-preserved c).Start) x listed kept (e ∙ w.0.left))))
+    c.if-coefficient_is.branch
