@@ -1,7 +1,6 @@
 -- `places_of` meets its contract. The loop's invariant: the places so far are listed.
 use mathlib.Core.Path.{◌≡◌, refl, sym, ◌∙◌, ap₂, subst}
 use mathlib.Core.List.{List}
-use mathlib.Core.Logic.{⊎_elim}
 use Prim.Native.Nat.{ℕ, ◌+◌, ◌-◌, ◌≤◌, ◌<◌}
 use native.Mathlib.Omega.{arith}
 use lib.ListN.{length, set, length-set}
@@ -14,7 +13,7 @@ use Rattle.polynomials.specs.Polynomials.{coefficient}
 use Rattle.unit_products.specs.Rotations.{Places}
 use Rattle.unit_products.proofs.PlacesOf.{places_none, places_kept, places_more, places_same}
 use Rattle.unit_products.proofs.places.places_of.Goals as goal
-use Rattle.unit_products.proofs.places.places_of.Goals.{Start}
+use Rattle.unit_products.proofs.places.places_of.Goals.{Start, then-coefficient_is, else-coefficient_is}
 
 -- the unit, as it is handed on and as it was given
 abbrev unit : Start → ℤ[ω]
@@ -32,7 +31,7 @@ loop-j-preserved c =
     let taken = c.loop-j-test.true in
     let kept = places_kept (unit (goal.at.loop-j-preserved c).Start) x c.loop-j.places c.loop-j.j c.loop-j.invariant.3 in
     let long = length-set c.loop-j.places c.loop-j.count c.loop-j.j ∙ c.loop-j.invariant.2 in
-    ⊎_elim
-    (λ w. (omega (arith, taken), omega (arith, w.1, c.loop-j.invariant.1), long, subst (Places (c.loop-j.j + 1) (unit (goal.at.loop-j-preserved c).Start) x listed) (sym w.1) (places_more (unit (goal.at.loop-j-preserved c).Start) x listed kept (get_or-set_same c.loop-j.places c.loop-j.count c.loop-j.j 0 room) (e ∙ w.0.taken))))
-    (λ w. (omega (arith, taken), omega (arith, w.1, c.loop-j.invariant.1), long, subst (Places (c.loop-j.j + 1) (unit (goal.at.loop-j-preserved c).Start) x listed) (sym w.1) (places_same (unit (goal.at.loop-j-preserved c).Start) x listed kept (e ∙ w.0.left))))
-    c.if-coefficient_is.branch
+    elim c.if-coefficient_is.branch [
+      then-coefficient_is w ↦ (omega (arith, taken), omega (arith, w.count-is, c.loop-j.invariant.1), long, subst (Places (c.loop-j.j + 1) (unit (goal.at.loop-j-preserved c).Start) x listed) (sym w.count-is) (places_more (unit (goal.at.loop-j-preserved c).Start) x listed kept (get_or-set_same c.loop-j.places c.loop-j.count c.loop-j.j 0 room) (e ∙ w.if-coefficient_is.true)))
+      | else-coefficient_is w ↦ (omega (arith, taken), omega (arith, w.count-is, c.loop-j.invariant.1), long, subst (Places (c.loop-j.j + 1) (unit (goal.at.loop-j-preserved c).Start) x listed) (sym w.count-is) (places_same (unit (goal.at.loop-j-preserved c).Start) x listed kept (e ∙ w.if-coefficient_is.false)))
+    ]

@@ -23,7 +23,7 @@ small : (c : In-loop-k) → nat_abs (number c) ≤ 32766
 small c = c.requires.2 (c.args.a + c.loop-k.k)
 
 read : (c : In-loop-k) → to_z w16 (of_z w16 (number c)) ≡ number c
-read c = to_z-of_z (sfits_within (number c) (small c) (lit< tt))
+read c = to_z-of_z {w = w16} (sfits_within (number c) (small c) (lit< tt))
 
 -- the sum, which is as it came, and the number
 abbrev ρ : In-loop-k → List Leaf

@@ -15,32 +15,32 @@ use Rattle.unit_products.proofs.Horner.{turned_below, grown, still_small, After,
 use Rattle.unit_products.proofs.rotations.add_units.Goals as goal
 
 pub loop-k-init : goal.loop-k-init
-loop-k-init c = (omega arith, refl, refl, after_none c.args.n (coefficient c.args.x.now) c.args.twice.now c.args.sums.now c.requires.1.1.long c.requires.1.0)
+loop-k-init c = (omega arith, refl, refl, after_none c.args.n (coefficient c.args.x.now) c.args.twice.now c.args.sums.now c.requires.zeros.1.long c.requires.zeros.0)
 
 pub turn-requires : goal.turn-requires
 turn-requires c = let h = c.loop-k.invariant.3 in
-    record { n_bound = (c.requires.1.1.N_small, h.long); all_within = λ i. omega (arith, h.below i, still_small (6 - c.loop-k.k) (omega (arith, c.loop-k-test.true))) }
+    record { n_bound = (c.requires.zeros.1.N_small, h.long); all_within = λ i. omega (arith, h.below i, still_small (6 - c.loop-k.k) (omega (arith, c.loop-k-test.true))) }
 
 pub add_unit-requires : goal.add_unit-requires
 add_unit-requires c = let h = c.loop-k.invariant.3 in
     let k = turned_below c.args.n (grown (6 - c.loop-k.k)) c.loop-k.sums c.turn.ensures h.below in (
-      c.requires.0.0,
+      c.requires.x_len.0,
       record {
-        N_small = c.requires.1.1.N_small;
+        N_small = c.requires.zeros.1.N_small;
         long = k.0;
-        twice_long = c.requires.1.1.twice_long;
+        twice_long = c.requires.zeros.1.twice_long;
         few = omega arith;
-        places_long = omega (arith, c.requires.1.1.places_long, c.loop-k.invariant.1);
+        places_long = omega (arith, c.requires.zeros.1.places_long, c.loop-k.invariant.1);
         below = λ m p. absurd (omega arith);
         sums_below = λ i. omega (arith, k.1 i, still_small (6 - c.loop-k.k) (omega (arith, c.loop-k-test.true)));
-        twice_below = c.requires.1.1.twice_below;
+        twice_below = c.requires.zeros.1.twice_below;
       },
-      c.loop-k.invariant.2 ∙ c.requires.0.2,
+      c.loop-k.invariant.2 ∙ c.requires.x_len.2,
     )
 
 pub loop-k-preserved : goal.loop-k-preserved
 loop-k-preserved c = 
-    let handed : value (to_z w32 (of_z w32 c.unit-u.result.a)) (to_z w32 (of_z w32 c.unit-u.result.b)) ≡ value c.unit-u.result.a c.unit-u.result.b = pair_read (search rules) (search rules) in
+    let handed : value (to_z w32 (of_z w32 c.unit-u.result.a)) (to_z w32 (of_z w32 c.unit-u.result.b)) ≡ value c.unit-u.result.a c.unit-u.result.b = pair_read {w = w32} (search rules) (search rules) in
     let taken = c.loop-k-test.true in
     let m : ℕ = 6 - c.loop-k.k in
     let next : suc m ≡ 6 - (c.loop-k.k - 1) = omega (arith, taken, c.loop-k.invariant.0) in
@@ -55,4 +55,4 @@ loop-k-preserved c =
     )
 
 pub returns : goal.returns
-returns c = after_all c.args.n (coefficient c.args.x.now) c.args.twice.now c.loop-k.sums c.requires.0.1 (subst (λ (m : ℕ). After c.args.n (coefficient c.args.x.now) c.args.twice.now m c.loop-k.sums) (omega (arith, c.loop-k-test.false)) c.loop-k.invariant.3)
+returns c = after_all c.args.n (coefficient c.args.x.now) c.args.twice.now c.loop-k.sums c.requires.x_len.1 (subst (λ (m : ℕ). After c.args.n (coefficient c.args.x.now) c.args.twice.now m c.loop-k.sums) (omega (arith, c.loop-k-test.false)) c.loop-k.invariant.3)

@@ -25,15 +25,14 @@ add_units-requires c =
     let a = c.requires.0 in
     let can : repeatable y (length c.args.twice.now) ≡ true = repeatable_holds y (length c.args.twice.now) (omega (arith, a.y_long, a.N_small)) (omega (arith, a.y_long, c.requires.1)) a.y_small in
     subst (Twice y) (sym (was_formed (y ++ y) c.args.twice.now can c.lay_out_twice.ensures).1) (twice_joined y) in
-    let s = t.before.before.before in
-    let a = s.requires.0 in record { x_len = (a.x_long, a.units, s.requires.3); zeros = (
+    let a = c.requires.0 in record { x_len = (a.x_long, a.units, c.requires.3); zeros = (
         c.clear.ensures.1,
         record {
           N_small = a.N_small;
           long = c.clear.ensures.0 ∙ a.out_long;
           twice_long = laid_out.long ∙ ap (λ (k : ℕ). 2 * k) a.y_long;
           few = omega arith;
-          places_long = s.requires.2;
+          places_long = c.requires.2;
           below = λ m p. absurd (omega arith);
           sums_below = λ k. omega (arith, ap nat_abs (c.clear.ensures.1 k));
           twice_below = twice_below laid_out a.y_small;
@@ -46,10 +45,9 @@ returns c =
     let a = c.requires.0 in
     let can : repeatable y (length c.args.twice.now) ≡ true = repeatable_holds y (length c.args.twice.now) (omega (arith, a.y_long, a.N_small)) (omega (arith, a.y_long, c.requires.1)) a.y_small in
     subst (Twice y) (sym (was_formed (y ++ y) c.args.twice.now can c.lay_out_twice.ensures).1) (twice_joined y) in
-    let s = t.before.before.before in
-    let n = s.args.n in
-    let x = coefficient s.args.x.now in
-    let y = coefficient s.args.y.now in
+    let n = c.args.n in
+    let x = coefficient c.args.x.now in
+    let y = coefficient c.args.y.now in
     c.add_units.ensures
     ∙ array_same n (λ i p.
-    sum_same n (λ j q. ap (◌*ω◌ (x j)) (run_is laid_out n j i s.requires.0.y_long q p)) ∙ sym (convolution_single n x y i p))
+    sum_same n (λ j q. ap (◌*ω◌ (x j)) (run_is laid_out n j i c.requires.0.y_long q p)) ∙ sym (convolution_single n x y i p))

@@ -16,12 +16,12 @@ use Rattle.unit_products.proofs.rotations.sum_of_six.Goals.{Start}
 abbrev ρ : Start → List Leaf
 ρ s =
     let l = s.args.twice.now in
-    given (get_or l s.args.a (pos 0)) 5461 (s.requires.1 s.args.a)
-    ∷ given (get_or l s.args.b (pos 0)) 5461 (s.requires.1 s.args.b)
-    ∷ given (get_or l s.args.c (pos 0)) 5461 (s.requires.1 s.args.c)
-    ∷ given (get_or l s.args.d (pos 0)) 5461 (s.requires.1 s.args.d)
-    ∷ given (get_or l s.args.e (pos 0)) 5461 (s.requires.1 s.args.e)
-    ∷ given (get_or l s.args.f (pos 0)) 5461 (s.requires.1 s.args.f)
+    given (get_or l s.args.a (pos 0)) 5461 (s.requires.all_within s.args.a)
+    ∷ given (get_or l s.args.b (pos 0)) 5461 (s.requires.all_within s.args.b)
+    ∷ given (get_or l s.args.c (pos 0)) 5461 (s.requires.all_within s.args.c)
+    ∷ given (get_or l s.args.d (pos 0)) 5461 (s.requires.all_within s.args.d)
+    ∷ given (get_or l s.args.e (pos 0)) 5461 (s.requires.all_within s.args.e)
+    ∷ given (get_or l s.args.f (pos 0)) 5461 (s.requires.all_within s.args.f)
     ∷ []
 
 abbrev three : Expr

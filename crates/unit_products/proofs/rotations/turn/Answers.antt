@@ -10,11 +10,11 @@ use Rattle.unit_products.proofs.Horner.{parts_below}
 use Rattle.unit_products.proofs.rotations.turn.Goals as goal
 
 pub turn_at-requires : goal.turn_at-requires
-turn_at-requires c = (omega (arith, c.loop-i-test.true, c.requires.0.0), omega (arith, c.loop-i-test.true, c.loop-i.invariant.1.long, c.requires.0.1), subst (PartsBelow (2 ^ 29)) (sym (c.loop-i.invariant.1.old c.loop-i.i (omega arith))) (parts_below c.args.x.now c.loop-i.i c.requires.1))
+turn_at-requires c = (omega (arith, c.loop-i-test.true, c.requires.n_bound.0), omega (arith, c.loop-i-test.true, c.loop-i.invariant.1.long, c.requires.n_bound.1), subst (PartsBelow (2 ^ 29)) (sym (c.loop-i.invariant.1.old c.loop-i.i (omega arith))) (parts_below c.args.x.now c.loop-i.i c.requires.all_within))
 
 pub loop-i-preserved : goal.loop-i-preserved
 loop-i-preserved c = let taken = c.loop-i-test.true in
-    (omega (arith, taken), stored_next c.loop-i.invariant.1 c.turn_at.ensures (omega (arith, taken, c.loop-i.invariant.1.long, c.requires.0.1)) (ap (◌*ω◌ ζ) (c.loop-i.invariant.1.old c.loop-i.i (omega arith))))
+    (omega (arith, taken), stored_next c.loop-i.invariant.1 c.turn_at.ensures (omega (arith, taken, c.loop-i.invariant.1.long, c.requires.n_bound.1)) (ap (◌*ω◌ ζ) (c.loop-i.invariant.1.old c.loop-i.i (omega arith))))
 
 pub returns : goal.returns
-returns c = stored_all c.args.n c.loop-i.invariant.1 c.requires.0.1 (omega (arith, c.loop-i-test.false))
+returns c = stored_all c.args.n c.loop-i.invariant.1 c.requires.n_bound.1 (omega (arith, c.loop-i-test.false))

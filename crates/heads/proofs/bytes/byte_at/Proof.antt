@@ -1,9 +1,0 @@
--- `byte_at` meets its contract.
-use mathlib.Core.Path.{sym}
-use borrow.Author.Rules.{rules}
-use lib.ListN.{get_or-eq_default}
-use Rattle.heads.proofs.bytes.byte_at.Statement.{statement}
-use Rattle.heads.proofs.bytes.byte_at.Tie as tie
-
-pub byte_at_spec : {M : Type 1} → statement M
-byte_at_spec = tie.close (tie.spec (λ c. search rules) (λ c. search rules) (λ c. sym (get_or-eq_default c.before.args.file.now 0 c.if1.false)))

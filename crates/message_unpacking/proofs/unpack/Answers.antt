@@ -1,0 +1,37 @@
+-- `unpack` meets its contract.
+use mathlib.Core.Path.{sym, ◌∙◌, ap}
+use mathlib.Core.List.{List}
+use Prim.Native.Nat.{ℕ}
+use borrow.Author.Rules.{rules}
+use lib.ListN.{length}
+use Rattle.refusals.specs.Outcomes.{Check, Passes}
+use Rattle.refusals.specs.Numbers.{answered}
+use Rattle.refusals.proofs.Checks.{gives_done, gives_refused}
+use Rattle.polynomials.specs.Polynomials.{coefficient}
+use Rattle.packing.specs.Messages.{unpacked}
+use Rattle.message_unpacking.specs.Calls.{unpacking_checks, unpacking}
+use Rattle.message_unpacking.proofs.Passed.{unpacking_passed}
+use Rattle.message_unpacking.proofs.unpack.Goals as goal
+use Rattle.message_unpacking.proofs.unpack.Goals.{Start}
+
+abbrev checks : Start → List Check
+checks s = unpacking_checks s.args.n s.args.m.now (length s.args.message.now)
+
+abbrev value_of : Start → List ℕ
+value_of s = unpacked s.args.n (coefficient s.args.m.now)
+
+pub unpack_into-requires : goal.unpack_into-requires
+unfolding unpacking
+unpack_into-requires c = 
+    let all_passed : Passes (checks (goal.at.unpack_into-requires c).Start) = sym c.unpacking_refusal.ensures ∙ ap answered c.in-Done.is in
+    unpacking_passed c.args.n c.args.m.now (length c.args.message.now) all_passed
+
+pub returns-in-Done : goal.returns-in-Done
+unfolding unpacking
+returns-in-Done c = 
+    let all_passed : Passes (checks (goal.at.returns-in-Done c).Start) = sym c.unpacking_refusal.ensures ∙ ap answered c.in-Done.is in
+    gives_done (checks (goal.at.returns-in-Done c).Start) (value_of (goal.at.returns-in-Done c).Start) c.args.message.now _ all_passed c.unpack_into.ensures
+
+pub returns-in-Refused : goal.returns-in-Refused
+unfolding unpacking
+returns-in-Refused c = gives_refused (checks (goal.at.returns-in-Refused c).Start) (value_of (goal.at.returns-in-Refused c).Start) c.args.message.now _ (sym c.unpacking_refusal.ensures ∙ ap answered c.in-Refused.is)
