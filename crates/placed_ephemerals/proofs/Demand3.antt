@@ -26,7 +26,7 @@ module _ {p : ParameterSet} {f F2 Fq g h : List ℤ} (key : AcceptedKey p f F2 F
   module _ {places : List PlacedUnit} {message : List ℕ} (ok : PlacedEphemeral p places) (msg : Message p message) where
     opens : Opens p f F2 h places message
     opens =
-        let o = (arrays.demand-3).opens p f F2 Fq g h (array p.N (spread places)) message key (placed p places ok) msg in
+        let o = (arrays.demand_3).opens p f F2 Fq g h (array p.N (spread places)) message key (placed p places ok) msg in
         record { e = o.e; seals = sealing_from_places p h places message _ ok.spreadable ∙ o.seals; opens = o.opens; forms = o.forms }
 
     -- the array that the call left is the one sealed
@@ -35,7 +35,7 @@ module _ {p : ParameterSet} {f F2 Fq g h : List ℤ} (key : AcceptedKey p f F2 F
 
   distinct : {places places' : List PlacedUnit} {message message' : List ℕ} {e e' : List ℤ} → PlacedEphemeral p places → PlacedEphemeral p places' → Message p message → Message p message' → places_sealing p h places message (2 * p.N) ≡ done e → places_sealing p h places' message' (2 * p.N) ≡ done e' → e ≡ e' → message ≡ message'
   distinct {places} {places'} {message} {message'} {e} {e'} ok ok' msg msg' seals seals' same-e =
-      (arrays.demand-3).distinct p f F2 Fq g h (array p.N (spread places)) (array p.N (spread places')) message message' e e' key (placed p places ok) (placed p places' ok') msg msg'
+      (arrays.demand_3).distinct p f F2 Fq g h (array p.N (spread places)) (array p.N (spread places')) message message' e e' key (placed p places ok) (placed p places' ok') msg msg'
       (sym (sealing_from_places p h places message _ ok.spreadable) ∙ seals) (sym (sealing_from_places p h places' message' _ ok'.spreadable) ∙ seals') same-e
 
 pub demand_3 : Demand3

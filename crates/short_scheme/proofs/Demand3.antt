@@ -21,7 +21,7 @@ module _ {p : ParameterSet} {f F2 Fq g h : List ℤ} (key : AcceptedKey p f F2 F
   module _ {φ : List ℤ} {short : List ℕ} (ephemeral : Ephemeral p φ) (s : Short p.N short) where
     opens : Opens p f F2 h φ short
     opens =
-        let o = (full.demand-3).opens p f F2 Fq g h φ (padded p.N short) key ephemeral (padded_message p short s.fits) in
+        let o = (full.demand_3).opens p f F2 Fq g h φ (padded p.N short) key ephemeral (padded_message p short s.fits) in
         let r = padded_reads p.N short s in
         record {
           e = o.e;
@@ -36,7 +36,7 @@ module _ {p : ParameterSet} {f F2 Fq g h : List ℤ} (key : AcceptedKey p f F2 F
   distinct : {φ φ' : List ℤ} {short short' : List ℕ} (e e' : List ℤ) → Ephemeral p φ → Ephemeral p φ' → Short p.N short → Short p.N short' → short_sealing p h φ short (2 * p.N) ≡ done e → short_sealing p h φ' short' (2 * p.N) ≡ done e' → e ≡ e' → short ≡ short'
   distinct {φ} {φ'} {short} {short'} e e' ephemeral ephemeral' s s' seals seals' same-e =
       same_short p.N short short' s s'
-      ((full.demand-3).distinct p f F2 Fq g h φ φ' (padded p.N short) (padded p.N short') e e' key ephemeral ephemeral' (padded_message p short s.fits) (padded_message p short' s'.fits)
+      ((full.demand_3).distinct p f F2 Fq g h φ φ' (padded p.N short) (padded p.N short') e e' key ephemeral ephemeral' (padded_message p short s.fits) (padded_message p short' s'.fits)
       (sym (short_seals_as_padded p h φ short (2 * p.N) s.fits) ∙ seals) (sym (short_seals_as_padded p h φ' short' (2 * p.N) s'.fits) ∙ seals') same-e)
 
 pub demand_3 : Demand3

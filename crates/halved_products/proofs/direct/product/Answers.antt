@@ -2,7 +2,6 @@
 use mathlib.Core.Path.{◌≡◌, sym, ◌∙◌, ap₂, subst}
 use mathlib.Core.List.{List, [], ◌∷◌}
 use Prim.Native.Nat.{ℕ, ◌+◌, ◌*◌, ◌≤◌, ◌^◌}
-use borrow.Author.Rules.{rules}
 use lib.IntN.{ℤ, pos, nat_abs, ◌-ℤ◌, ◌*ℤ◌}
 use lib.ListN.{get_or}
 use mir.Syntax.{w64}
@@ -21,10 +20,10 @@ read_bound l k h e = subst (λ (z : ℤ). nat_abs z ≤ 2 ^ 23) (sym e) (h k)
 
 abbrev ρ : After-at-yb → List Leaf
 ρ c =
-    given c.at-xa.result (2 ^ 23) (read_bound c.args.x.now (2 * c.args.j) c.requires.all_within.0 c.at-xa.ensures.0)
-    ∷ given c.at-xb.result (2 ^ 23) (read_bound c.args.x.now (2 * c.args.j + 1) c.requires.all_within.0 c.at-xb.ensures.0)
-    ∷ given c.at-ya.result (2 ^ 23) (read_bound c.args.y.now (2 * c.args.k) c.requires.all_within.1 c.at-ya.ensures.0)
-    ∷ given c.at-yb.result (2 ^ 23) (read_bound c.args.y.now (2 * c.args.k + 1) c.requires.all_within.1 c.at-yb.ensures.0)
+    given c.at-xa.result (2 ^ 23) (read_bound c.args.x.now (2 * c.args.j) c.requires.all_within c.at-xa.ensures.0)
+    ∷ given c.at-xb.result (2 ^ 23) (read_bound c.args.x.now (2 * c.args.j + 1) c.requires.all_within c.at-xb.ensures.0)
+    ∷ given c.at-ya.result (2 ^ 23) (read_bound c.args.y.now (2 * c.args.k) c.requires.all_within_2 c.at-ya.ensures.0)
+    ∷ given c.at-yb.result (2 ^ 23) (read_bound c.args.y.now (2 * c.args.k + 1) c.requires.all_within_2 c.at-yb.ensures.0)
     ∷ []
 
 abbrev xa : Expr
@@ -58,13 +57,6 @@ y_is : (c : After-at-yb) → value c.at-ya.result c.at-yb.result ≡ coefficient
 unfolding coefficient
 y_is c = ap₂ value c.at-ya.ensures.0 c.at-yb.ensures.0
 
-returns : tie.Need-returns
-returns c = (
-  ap₂ value (exact w64 (ρ c) a tt) (exact w64 (ρ c) b tt) ∙ by_three _ _ ∙ ap₂ ◌*ω◌ (x_is c) (y_is c),
-  size_read w64 (ρ c) a (2 ^ 49) tt tt,
-  size_read w64 (ρ c) b (2 ^ 49) tt tt,
-)
-
 pub overflow_mul-first : goal.overflow_mul-first
 overflow_mul-first c = fits w64 (ρ c) (xa ⊗ ya) tt
 
@@ -81,4 +73,8 @@ pub overflow_sub-result-4 : goal.overflow_sub-result-4
 overflow_sub-result-4 c = fits w64 (ρ c) b tt
 
 pub returns : goal.returns
-returns c = returns c
+returns c = (
+  ap₂ value (exact w64 (ρ c) a tt) (exact w64 (ρ c) b tt) ∙ by_three _ _ ∙ ap₂ ◌*ω◌ (x_is c) (y_is c),
+  size_read w64 (ρ c) a (2 ^ 49) tt tt,
+  size_read w64 (ρ c) b (2 ^ 49) tt tt,
+)

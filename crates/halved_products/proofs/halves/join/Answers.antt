@@ -1,12 +1,5 @@
 -- `join` meets its contract.
-use mathlib.Core.Path.{sym, subst}
-use Prim.Native.Nat.{◌+◌, ◌*◌, ◌^◌, ◌≤◌}
-use native.Mathlib.Omega.{arith}
-use native.Mathlib.Nat.{le_trans}
-use borrow.Author.Rules.{rules}
-use lib.Dec.{lit≤}
-use lib.IntN.{ℤ, nat_abs}
-use Rattle.halved_products.proofs.Joining.{join_is, size_first, size_both, size_old, second}
+use Rattle.halved_products.proofs.Joining.{join_is}
 use Rattle.halved_products.proofs.halves.join.Goals as goal
 
 pub returns : goal.returns

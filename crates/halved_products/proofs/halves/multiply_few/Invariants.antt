@@ -1,9 +1,8 @@
 -- `multiply_few` meets its contract.
 use Prim.Native.Nat.{◌-◌, ◌*◌, ◌≤◌}
-use native.Mathlib.Omega.{arith}
 use Rattle.polynomials.specs.Polynomials.{coefficient}
 use Rattle.halving.specs.Products.{product}
-use Rattle.arrays.proofs.Changing.{Changed, changed_none, stored_next}
+use Rattle.arrays.proofs.Changing.{Changed}
 use Rattle.halved_products.proofs.halves.multiply_few.Given as goal
 
 abbrev pub invariant-loop-i : goal.invariant-loop-i

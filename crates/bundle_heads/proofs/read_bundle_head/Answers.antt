@@ -1,0 +1,38 @@
+-- `read_bundle_head` meets its contract: the head and its parameters, then 7.
+use mathlib.Core.Path.{◌≡◌, sym, ◌∙◌, ap}
+use mathlib.Core.Bool.{not}
+use mathlib.Core.List.{List, [], ◌∷◌}
+use Prim.Native.Nat.{ℕ}
+use borrow.Author.Rules.{rules}
+use lib.ListN.{length}
+use Rattle.refusals.specs.Outcomes.{Check, outcome, ◌if◌}
+use Rattle.refusals.proofs.Checks.{passed_all, refused_first}
+use Rattle.parameters.specs.Sets.{ParameterSet, made}
+use Rattle.heads.specs.Heads.{head_of}
+use Rattle.head_reading.specs.Calls.{reading_head}
+use Rattle.bundles.specs.Bundles.{count_of}
+use Rattle.bundles.specs.Calls.{right_length, bundle_head_checks, count_checks, reading_parameters}
+use Rattle.bundles.proofs.MadeParameters.{made_accepted, made_refused}
+use Rattle.bundle_heads.proofs.read_bundle_head.Goals as goal
+
+-- 7 with the parameters p
+abbrev length_check : List ℕ → ParameterSet → List Check
+length_check file p = 7 if not (right_length p.N (count_of file) (length file)) ∷ []
+
+pub returns-in-Accepted : goal.returns-in-Accepted
+unfolding reading_parameters count_checks reading_head
+returns-in-Accepted c = 
+    let head_is : let file = c.args.file.now in made c.read_head.result ≡ outcome (bundle_head_checks file) (head_of file) = c.read_head.ensures in
+    let file = c.args.file.now in
+    let p = c.in-Accepted.p in
+    let k = made_accepted (bundle_head_checks file) (head_of file) p (sym (ap made c.in-Accepted.is) ∙ head_is) in
+    c.counted.ensures
+    ∙ ap (λ (q : ParameterSet). outcome (length_check file q) q) (sym k.1)
+    ∙ sym (passed_all (bundle_head_checks file) (length_check file (head_of file)) (head_of file) k.0)
+
+pub returns-in-Refused : goal.returns-in-Refused
+unfolding reading_parameters count_checks reading_head
+returns-in-Refused c = 
+    let head_is : let file = c.args.file.now in made c.read_head.result ≡ outcome (bundle_head_checks file) (head_of file) = c.read_head.ensures in
+    let file = c.args.file.now in
+    sym (refused_first (bundle_head_checks file) (length_check file (head_of file)) (head_of file) _ (made_refused (bundle_head_checks file) (head_of file) c.in-Refused.refusal (sym (ap made c.in-Refused.is) ∙ head_is)))

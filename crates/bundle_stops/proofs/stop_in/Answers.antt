@@ -1,0 +1,8 @@
+-- `stop_in` meets its contract.
+use borrow.Author.Rules.{rules}
+use Rattle.bundles.specs.Bundles.{stop_in}
+use Rattle.bundle_stops.proofs.stop_in.Goals as goal
+
+pub returns : goal.returns
+unfolding stop_in
+returns c = c.unsigned_at.ensures

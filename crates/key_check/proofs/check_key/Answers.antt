@@ -1,0 +1,31 @@
+-- `check_key` meets its contract.
+use mathlib.Core.Path.{sym, ◌∙◌, ap}
+use mathlib.Core.List.{List, ◌++◌}
+use borrow.Author.Rules.{rules}
+use lib.IntN.{ℤ}
+use lib.ListN.{length}
+use Rattle.refusals.specs.Outcomes.{Check, Passes}
+use Rattle.refusals.specs.Numbers.{answered}
+use Rattle.refusals.proofs.Checks.{gives_done, gives_refused}
+use Rattle.parameters.specs.Sets.{set_of, parameter_checks}
+use Rattle.polynomials.specs.Polynomials.{coefficient, array}
+use Rattle.etru.specs.Scheme.{public_key}
+use Rattle.etru.specs.Calls.{key_checks, key_check}
+use Rattle.key_check.proofs.check_key.Goals as goal
+use Rattle.key_check.proofs.check_key.Goals.{Start}
+
+abbrev checks : Start → List Check
+checks s = parameter_checks (set_of s.args.p) ++ key_checks (set_of s.args.p) s.args.f.now s.args.f2.now s.args.fq.now s.args.g.now (length s.args.h.now)
+
+abbrev value_of : Start → List ℤ
+value_of s = array s.args.p.n (public_key (set_of s.args.p) (coefficient s.args.fq.now) (coefficient s.args.g.now))
+
+pub returns-in-Done : goal.returns-in-Done
+unfolding key_check
+returns-in-Done c = 
+    let all_passed : Passes (checks (goal.at.returns-in-Done c).Start) = sym c.key_refusal.ensures ∙ ap answered c.in-Done.is in
+    gives_done (checks (goal.at.returns-in-Done c).Start) (value_of (goal.at.returns-in-Done c).Start) c.args.h.now _ all_passed c.write_public_key.ensures
+
+pub returns-in-Refused : goal.returns-in-Refused
+unfolding key_check
+returns-in-Refused c = gives_refused (checks (goal.at.returns-in-Refused c).Start) (value_of (goal.at.returns-in-Refused c).Start) c.args.h.now _ (sym c.key_refusal.ensures ∙ ap answered c.in-Refused.is)

@@ -1,0 +1,32 @@
+-- `open` meets its contract.
+use mathlib.Core.Path.{sym, ◌∙◌, ap}
+use mathlib.Core.List.{List, ◌++◌}
+use Prim.Native.Nat.{ℕ}
+use borrow.Author.Rules.{rules}
+use lib.ListN.{length}
+use Rattle.refusals.specs.Outcomes.{Check, Passes}
+use Rattle.refusals.specs.Numbers.{answered}
+use Rattle.refusals.proofs.Checks.{gives_done, gives_refused}
+use Rattle.parameters.specs.Sets.{set_of, parameter_checks}
+use Rattle.polynomials.specs.Polynomials.{coefficient}
+use Rattle.packing.specs.Messages.{unpacked}
+use Rattle.etru.specs.Scheme.{opened}
+use Rattle.etru.specs.Calls.{opening_checks, opening}
+use Rattle.unsealing.proofs.open.Goals as goal
+use Rattle.unsealing.proofs.open.Goals.{Start}
+
+abbrev checks : Start → List Check
+checks s = parameter_checks (set_of s.args.p) ++ opening_checks (set_of s.args.p) s.args.f.now s.args.f2.now s.args.e.now (length s.args.message.now)
+
+abbrev value_of : Start → List ℕ
+value_of s = unpacked s.args.p.n (opened (set_of s.args.p) (coefficient s.args.f.now) (coefficient s.args.f2.now) (coefficient s.args.e.now))
+
+pub returns-in-Done : goal.returns-in-Done
+unfolding opening
+returns-in-Done c = 
+    let all_passed : Passes (checks (goal.at.returns-in-Done c).Start) = sym c.opening_refusal.ensures ∙ ap answered c.in-Done.is in
+    gives_done (checks (goal.at.returns-in-Done c).Start) (value_of (goal.at.returns-in-Done c).Start) c.args.message.now _ all_passed c.open_into.ensures
+
+pub returns-in-Refused : goal.returns-in-Refused
+unfolding opening
+returns-in-Refused c = gives_refused (checks (goal.at.returns-in-Refused c).Start) (value_of (goal.at.returns-in-Refused c).Start) c.args.message.now _ (sym c.opening_refusal.ensures ∙ ap answered c.in-Refused.is)
