@@ -115,7 +115,7 @@ def check_refusals(report):
     variants = re.findall(r"\w+", between("pub enum Refusal {", "}", code))
     miss = f"{REFUSALS}: the enum's variants are not those of the match in `number`, in the same order"
     report.check(variants == [name for name, _ in refusals], miss)
-    check_refusal_proofs(report, refusals)
+    check_refusal_definition(report, refusals)
 
     constants = [("ETRU_OK", 0)] + [("ETRU_" + snake(name).upper(), number) for name, number in refusals]
     place = "include/etru.h"
@@ -145,18 +145,12 @@ def check_refusals(report):
     return len(refusals)
 
 
-def check_refusal_proofs(report, refusals):
+def check_refusal_definition(report, refusals):
     place = "crates/refusals/specs/Numbers.antt"
-    found = numbered(r"^numberOf Refusal\.(\w+) = (\d+)$", text(place))
-    report.same(place, REFUSALS, refusals, found, lambda name, number: f"'numberOf Refusal.{name} = {number}'")
+    found = numbered(r"^number_of Refusal\.(\w+) = (\d+)$", text(place))
+    report.same(place, REFUSALS, refusals, found, lambda name, number: f"'number_of Refusal.{name} = {number}'")
     if sorted(found) == sorted(refusals):
-        report.check(found == refusals, f"{place}: the clauses of `numberOf` are not in the order of {REFUSALS}")
-
-    place = "crates/refusals/proofs/Refusal/number/Proof.antt"
-    lines = between(r"    \(tie\.spec", r"    \)", text(place)).splitlines()
-    what = f"{len(lines)} lines between '(tie.spec' and ')' for {len(refusals)} refusals"
-    miss = f"{place}: {what}: write one line for each, all the same"
-    report.check(len(lines) == len(refusals) and len(set(lines)) == 1, miss)
+        report.check(found == refusals, f"{place}: the clauses of `number_of` are not in the order of {REFUSALS}")
 
 
 # ---- Kinds of file: the constants of `heads`
@@ -168,12 +162,12 @@ def check_kinds(report):
     numbers = [f"kind {number}" for _, number in kinds]
     report.check(kinds, f"{KINDS}: no line like 'pub const PUBLIC: u32 = 1;' is left to take the kinds from")
 
-    # a kind that is not made of arrays alone has a name there, such as bundleKind
+    # a kind that is not made of arrays alone has a name there, such as bundle_kind
     place = "crates/heads/specs/Kinds.antt"
-    definition = between(r".*\bpub arraysOf :", "$", text(place))
-    found = [first or second for first, second in all_of(r"\beqb kind (\d+)|^arraysOf (\d+) =", definition)]
-    found = [f"kind {number}" for number in found + all_of(r"^\w+Kind = (\d+)$", text(place))]
-    report.same_names(place, KINDS, numbers, found, lambda name: f"the arrays of {name} in `arraysOf`, or its name")
+    definition = between(r".*\bpub arrays_of :", "$", text(place))
+    found = [first or second for first, second in all_of(r"\beqb kind (\d+)|^arrays_of (\d+) =", definition)]
+    found = [f"kind {number}" for number in found + all_of(r"^\w+_kind = (\d+)$", text(place))]
+    report.same_names(place, KINDS, numbers, found, lambda name: f"the arrays of {name} in `arrays_of`, or its name")
 
     place = "include/etru.h"
     header = text(place)
@@ -221,7 +215,7 @@ IN_PYTHON = {
 
 def check_records(report):
     code = on_one_line("".join(map(text, files(RECORDS))))
-    records = re.findall(r"#\[repr\(C\)\] pub struct (\w+) \{([^}]*)\}", code)
+    records = re.findall(r"#\[repr\(C\)\] (?:#\[[^\]]*\] )*pub struct (\w+) \{([^}]*)\}", code)
     report.check(records, f"{RECORDS}: no struct with #[repr(C)] is left to take the records from")
     for record, declared in records:
         fields = re.findall(r"pub (\w+): (\w+)", declared)
@@ -327,7 +321,7 @@ def check_calls(report):
 
 
 def used_names(crate, listed):
-    """The crates that a crate's files name: as Rattle·NAME in definitions and proofs, and in code also by a path."""
+    """The crates that a crate's files name: as Rattle.NAME in definitions and proofs, and in code also by a path."""
     names = set()
     code = files(f"crates/{crate}/src/**/*.rt")
     # a module of the crate's own may have the name of a crate
@@ -336,17 +330,20 @@ def used_names(crate, listed):
         content = re.sub(r"//.*", "", text(path))
         named = all_of(r"(?<![\w:])(\w+)::", content) + all_of(r"^use (\w+)", content)
         names |= set(named) & listed - modules
-        names |= set(all_of(r"Rattle·(\w+)\.", content))
+        names |= set(all_of(r"\bRattle\.(\w+)\.", content))
     for path in files(f"crates/{crate}/specs/**/*.antt", f"crates/{crate}/proofs/**/*.antt"):
-        names |= set(all_of(r"Rattle·(\w+)\.", re.sub(r"(?m)(^|\s)--(\s.*)?$", "", text(path))))
-    return names - {crate}
+        names |= set(all_of(r"\bRattle\.(\w+)\.", re.sub(r"(?m)(^|\s)--(\s.*)?$", "", text(path))))
+    # std is always there, and never listed
+    return names - {crate, "std"}
 
 
 def check_crates(report):
     uses = {}
     for line in text(CRATES).splitlines():
-        crate, _, used = line.partition(":")
-        uses[crate.strip()] = used.split()
+        head, _, used = line.partition("#")[0].partition(":")
+        if head.strip():
+            # 'staticlib' may stand behind the name
+            uses[head.split()[0]] = used.split()
     listed = set(uses).union(*uses.values())
     folders = sorted({path.split(os.sep)[1] for path in files("crates/*/src/*")})
     report.same_names(CRATES, "crates/", folders, uses, lambda name: f"'{name}:' and what it uses")
@@ -419,7 +416,7 @@ COUNTED = {
     "levels": ("N crates in M levels", r"\b\w+ crates in (\w+) levels\b", ["docs/ARCHITECTURE.md"]),
 }
 TEXTS = ["*.md", "docs/*.md", "include/*", "examples/*", "bindings/**/*.md", "bindings/**/*.rs", "reference/*.py"]
-TEXTS += ["crates/**/*.rt", "crates/**/*.antt"]
+TEXTS += ["crates/*/src/**/*.rt", "crates/*/specs/**/*.antt", "crates/*/proofs/**/*.antt"]
 WORDS = "zero one two three four five six seven eight nine ten eleven twelve thirteen fourteen fifteen sixteen".split()
 WORDS += "seventeen eighteen nineteen twenty".split()
 

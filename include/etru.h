@@ -1,6 +1,6 @@
 // The C interface of Rolphiek: ETRU, NTRU over the Eisenstein integers Z[ω], with p = 2. For C99 and C++.
 // "Document 01" is the specification, and "document 02" has the later requests. Link libetru_c.a, which
-// `rt staticlib etru_c` proves and builds; examples/seal_and_open.c is a program to begin with, and
+// `rt lib` in crates/etru_c proves and builds; examples/seal_and_open.c is a program to begin with, and
 // examples/open_bundle.c opens the messages of a bundle.
 //
 // What a call gives

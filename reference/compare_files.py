@@ -1,7 +1,8 @@
 """Compare the opening program and the library's calls on files with the reference program.
 
 Usage: python3 reference/compare_files.py [--seed N]
-The program is target/bin/etru_open. The last line is 'N passed, M failed'; the exit status is 1 if anything failed.
+The program is crates/etru_open/out/etru_open. The last line is 'N passed, M failed'; the exit status is 1 if anything
+failed.
 """
 
 import argparse
@@ -23,7 +24,7 @@ from keys import random_f, random_message, random_parameters, random_reduced, ra
 from keys import scattered
 from library import ROOT, Library
 
-PROGRAM = os.path.join(ROOT, "target", "bin", "etru_open")
+PROGRAM = os.path.join(ROOT, "crates", "etru_open", "out", "etru_open")
 MAKER = os.path.join(ROOT, "reference", "make_files.py")
 HIGH_U32 = 2**32 - 1
 MEGABYTE = 10**6

@@ -1,6 +1,6 @@
 """The library through its C interface, for the comparison with the reference program.
 
-The archive of `rt staticlib etru_c` is linked as a shared object and called by ctypes.
+The archive that `rt lib` writes in crates/etru_c is linked as a shared object and called by ctypes.
 """
 
 import ctypes
@@ -8,7 +8,7 @@ import os
 import subprocess
 
 ROOT = os.path.dirname(os.path.dirname(os.path.abspath(__file__)))
-ARCHIVE = os.path.join(ROOT, "target", "staticlib", "libetru_c.a")
+ARCHIVE = os.path.join(ROOT, "crates", "etru_c", "out", "libetru_c.a")
 SHARED = os.path.join(ROOT, "target", "comparison", "libetru_c.so")
 
 I32, I64, U32, U16, U8 = ctypes.c_int32, ctypes.c_int64, ctypes.c_uint32, ctypes.c_uint16, ctypes.c_uint8

@@ -1,4 +1,4 @@
-//! Links the static archive that `rt staticlib etru_c` writes.
+//! Links the static archive that `rt lib` writes in crates/etru_c.
 
 use std::env;
 use std::path::PathBuf;
@@ -9,13 +9,13 @@ fn main() -> ExitCode {
     let package = PathBuf::from(env::var_os("CARGO_MANIFEST_DIR").unwrap_or_default());
     let directory = match env::var_os("ETRU_LIBRARY_DIR") {
         Some(directory) => package.join(directory),
-        None => package.join("../../target/staticlib"),
+        None => package.join("../../crates/etru_c/out"),
     };
     let archive = directory.join("libetru_c.a");
     println!("cargo:rerun-if-changed={}", archive.display());
     if !archive.is_file() {
         eprintln!(
-            "{} is not there: run `rt staticlib etru_c` first,",
+            "{} is not there: run `rt lib` in crates/etru_c first,",
             archive.display()
         );
         eprintln!("or set ETRU_LIBRARY_DIR to the folder of libetru_c.a.");

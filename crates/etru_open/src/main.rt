@@ -6,11 +6,11 @@
 
 #![tactic(auto)]
 
-ghost use Rattle.std.specs.Prelude.{◌≡◌, ◌+◌, ◌-◌, ◌≤◌, length};
-ghost use Rattle.io.specs.Counts.{clamp_len};
+ghost use Rattle.std.specs.Prelude.{◌≡◌, ◌+◌, ◌-◌, ◌≤◌, min, length};
 
-use libc::{STDIN_FILENO, STDOUT_FILENO};
 use refusals::Answer;
+use std::io;
+use std::io::{Read, Stdin};
 
 // Two files have at most 16 + 16 × 1,024 and 16 + 4 × 1,024 bytes, 20,512 in all. Of a longer input the first 20,513 bytes give the same line (`LongInputLine` of the crate `opening`), so the rest is read and left.
 fn input_buffer() -> [u8; 20513]
@@ -25,47 +25,41 @@ fn line_buffer() -> [u8; 515]
     [0u8; 515]
 }
 
-// One read to the buffer from byte `at` on, or, where it is full, to bytes that are left. Answers what `read` does: 0 at the end of the input, less if it fails, and else the number of bytes.
-fn read_some(buffer: &mut [u8], at: usize) -> isize {
+// One read to the buffer from byte `at` on, or, where it is full, to bytes that are left. Answers what `read` does: the number of bytes, 0 at the end of the input, or why it failed.
+fn read_some(mut input: Stdin, buffer: &mut [u8], at: usize) -> io::Result<usize> {
     let all = buffer.len();
     if at < all {
-        return libc::read(STDIN_FILENO, &mut buffer[at..all]);
+        return input.read(&mut buffer[at..all]);
     }
     let mut left = [0u8; 4096];
-    libc::read(STDIN_FILENO, &mut left)
+    input.read(&mut left)
 }
 
 // How far the buffer is filled after such a read.
-fn filled(buffer: &[u8], at: usize, got: isize) -> usize
+fn filled(buffer: &[u8], at: usize, got: usize) -> usize
     requires { at ≤ length buffer.now }
-    ensures { (result ≤ length buffer.now) × (result ≡ at + clamp_len got (length buffer.now - at)) }
+    ensures { (result ≤ length buffer.now) × (result ≡ at + min got (length buffer.now - at)) }
 {
-    let all = buffer.len();
-    at + io::count(got, &buffer[at..all])
+    at + got.min(buffer.len() - at)
 }
 
 // Reads the input to its end, and answers how far the buffer is filled, or a number above its length if a read fails.
-// A proved loop has to end, and nothing says that an input does. So the loop counts its turns down, from a number that no run uses up.
-fn read_input(buffer: &mut [u8]) -> usize {
+// A proved loop has to end, and nothing says that an input does. So the loop's turns are counted, up to a number that no run reaches.
+fn read_input(input: Stdin, buffer: &mut [u8]) -> usize {
     let mut at = 0;
-    let mut turns = u64::MAX;
-    while turns > 0 {
-        let got = read_some(buffer, at);
-        if got < 0 {
-            return usize::MAX;
+    for _ in 0..u64::MAX {
+        match read_some(input, buffer, at) {
+            Ok(0) => return at,
+            Ok(got) => at = filled(buffer, at, got),
+            Err(_) => return usize::MAX,
         }
-        if got == 0 {
-            return at;
-        }
-        at = filled(buffer, at, got);
-        turns -= 1;
     }
     usize::MAX
 }
 
-fn main() {
+fn main(rt: HostRuntime) {
     let mut input = input_buffer();
-    let n = read_input(&mut input);
+    let n = read_input(rt.stdin(), &mut input);
     if n > input.len() {
         return;
     }
@@ -73,5 +67,6 @@ fn main() {
     let mut used = 0;
     // the line has its room, so nothing is refused
     let _answer: Answer = opening::open_files(&input[..n], &mut line, &mut used);
-    io::write_all(STDOUT_FILENO, &line[..used]);
+    // where a write fails, there is nobody to tell
+    let _ = rt.write_all(&line[..used]);
 }
