@@ -68,7 +68,7 @@ module _ (κ : Lft) where
 
     -- what a reader owns
     abbrev pub Own : Fml
-    Own = (Held (κ, tt)).own d (reader_val ∷ [])
+    Own = (Held (κ, tt)).own_val d (reader_val ∷ [])
 
 -- a reader at another place of its bytes
 abbrev pub moved : ℕ → Reader → Reader

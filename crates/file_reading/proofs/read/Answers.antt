@@ -29,28 +29,26 @@ abbrev content : Start → ParameterSet → List Check
 content s p = stored_checks s.args.kind p s.args.file.now (length s.args.numbers.now)
 
 -- the head is accepted, and with it the parameters
-record Read (c : tie.After-known-told) : Type 0 where
-  at_head : Passes (head c.before.before.before.before.before)
-  accepted : Passes (parameter_checks (P c.before.before.before.before.before))
-  same : P c.before.before.before.before.before ≡ set_of c.before.p.given.0.0
+record Read (s : Start) (p : ParameterSet) : Type 0 where
+  at_head : Passes (head s)
+  accepted : Passes (parameter_checks (P s))
+  same : P s ≡ p
 
 pub read_content-requires : goal.read_content-requires
-unfolding reading reading_checks
-unfolding reading_head
+unfolding reading reading_checks reading_head
 read_content-requires c = 
     let head_is : made c.read_head.result ≡ outcome (head (goal.at.read_content-requires c).Start ++ parameter_checks (P (goal.at.read_content-requires c).Start)) (P (goal.at.read_content-requires c).Start) = c.read_head.ensures in
-    let head_read : Read (goal.at.read_content-requires c).In-Accepted = let p = set_of c.in-Accepted.p in
+    let head_read : Read (goal.at.read_content-requires c).Start (set_of c.in-Accepted.p) = let p = set_of c.in-Accepted.p in
     let k = done_all (head (goal.at.read_content-requires c).Start) (parameter_checks (P (goal.at.read_content-requires c).Start)) (P (goal.at.read_content-requires c).Start) p (sym head_is ∙ ap made c.in-Accepted.is) in
     let m = done_parts (parameter_checks (P (goal.at.read_content-requires c).Start)) (P (goal.at.read_content-requires c).Start) p k.1 in
     record { at_head = k.0; accepted = m.0; same = m.1 } in
     let r = head_read in subst (λ (p : ParameterSet). Passes (parameter_checks p)) r.same r.accepted
 
 pub returns-in-Accepted : goal.returns-in-Accepted
-unfolding reading reading_checks
-unfolding reading_head
+unfolding reading reading_checks reading_head
 returns-in-Accepted c = 
     let head_is : made c.read_head.result ≡ outcome (head (goal.at.returns-in-Accepted c).Start ++ parameter_checks (P (goal.at.returns-in-Accepted c).Start)) (P (goal.at.returns-in-Accepted c).Start) = c.read_head.ensures in
-    let head_read : Read (goal.at.returns-in-Accepted c).In-Accepted = let p = set_of c.in-Accepted.p in
+    let head_read : Read (goal.at.returns-in-Accepted c).Start (set_of c.in-Accepted.p) = let p = set_of c.in-Accepted.p in
     let k = done_all (head (goal.at.returns-in-Accepted c).Start) (parameter_checks (P (goal.at.returns-in-Accepted c).Start)) (P (goal.at.returns-in-Accepted c).Start) p (sym head_is ∙ ap made c.in-Accepted.is) in
     let m = done_parts (parameter_checks (P (goal.at.returns-in-Accepted c).Start)) (P (goal.at.returns-in-Accepted c).Start) p k.1 in
     record { at_head = k.0; accepted = m.0; same = m.1 } in
@@ -61,8 +59,7 @@ returns-in-Accepted c =
     gives_same c.args.numbers.now read_on c.read_content.ensures
 
 pub returns-in-Refused : goal.returns-in-Refused
-unfolding reading reading_checks
-unfolding reading_head
+unfolding reading reading_checks reading_head
 returns-in-Refused c = 
     let head_is : made c.read_head.result ≡ outcome (head (goal.at.returns-in-Refused c).Start ++ parameter_checks (P (goal.at.returns-in-Refused c).Start)) (P (goal.at.returns-in-Refused c).Start) = c.read_head.ensures in
     let head_refused : outcome (head (goal.at.returns-in-Refused c).Start ++ (parameter_checks (P (goal.at.returns-in-Refused c).Start) ++ content (goal.at.returns-in-Refused c).Start (P (goal.at.returns-in-Refused c).Start))) (value_of (goal.at.returns-in-Refused c).Start) ≡ refused (number_of c.in-Refused.refusal) = let r = c.in-Refused.refusal in

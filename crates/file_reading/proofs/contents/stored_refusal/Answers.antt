@@ -18,45 +18,36 @@ use Rattle.files.proofs.Lists.{numbers_length}
 use Rattle.array_sets.proofs.ArrayChecks.{own, own_check}
 use Rattle.files.proofs.SetChecks.{first-array, set_at, from_array, array_passed, array_refused, all_arrays_passed}
 use Rattle.file_reading.proofs.contents.stored_refusal.Goals as goal
-use Rattle.file_reading.proofs.contents.stored_refusal.Goals.{After-array_count-count}
-
-abbrev AfterCount : Type 0
-AfterCount = After-array_count-count
-
-within : (c : AfterCount) (k : ℕ) → k < c.Array-count.result → k < length (arrays_of c.before.before.args.kind)
-within c k h = omega (arith, c.Array-count.ensures)
-
--- the end of array k, in numbers
-end : (c : AfterCount) (k : ℕ) → k < c.Array-count.result → let s = c.before.before in 2 * s.args.p.n * k + 2 * s.args.p.n ≤ length (numbers_from s.args.bytes.now)
-end c k h =
-    let s = c.before.before in
-    omega (arith, s.requires.1, numbers_length s.args.bytes.now, end_of_array s.args.kind s.args.p.n k (within c k h))
 
 pub returns-in-Refused : goal.returns-in-Refused
 unfolding array_at
 returns-in-Refused c = 
+    let within : (k : ℕ) → k < c.array_count-count.result → k < length (arrays_of c.args.kind) = λ k h. omega (arith, c.array_count-count.ensures) in
+    let end : (k : ℕ) → k < c.array_count-count.result → 2 * c.args.p.n * k + 2 * c.args.p.n ≤ length (numbers_from c.args.bytes.now) = λ k h. omega (arith, c.requires.1, numbers_length c.args.bytes.now, end_of_array c.args.kind c.args.p.n k (within k h)) in
     let checked : outcome (own (set_of c.args.p) (set_at (set_of c.args.p) (arrays_of c.args.kind) (numbers_from c.args.bytes.now) c.loop-k.k) (array_at (set_of c.args.p) c.loop-k.k (numbers_from c.args.bytes.now)) ∷ []) (tt {0}) ≡ answered c.stored_array_refusal.result = let x = numbers_from c.args.bytes.now in
     let k = c.loop-k.k in
     let w = 2 * c.args.p.n in
-    let long : length (take w (drop (w * k) x)) ≡ w = length-take-le w (drop (w * k) x) (omega (arith, length-drop (w * k) x, end (goal.at.returns-in-Refused c).After-array_count-count k c.loop-k-test.true)) in
+    let long : length (take w (drop (w * k) x)) ≡ w = length-take-le w (drop (w * k) x) (omega (arith, length-drop (w * k) x, end k c.loop-k-test.true)) in
     sym (own_check (set_of c.args.p) (get_or (arrays_of c.args.kind) k ReducedModuloQ) (take w (drop (w * k) x)) c.requires.0 long) ∙ sym c.stored_array_refusal.ensures in
     sym
     (c.loop-k.invariant.2
-    ∙ array_refused (set_of c.args.p) (arrays_of c.args.kind) (numbers_from c.args.bytes.now) c.loop-k.k _ (within (goal.at.returns-in-Refused c).After-array_count-count c.loop-k.k c.loop-k-test.true) (checked ∙ ap answered c.in-Refused.is))
+    ∙ array_refused (set_of c.args.p) (arrays_of c.args.kind) (numbers_from c.args.bytes.now) c.loop-k.k _ (within c.loop-k.k c.loop-k-test.true) (checked ∙ ap answered c.in-Refused.is))
 
 pub loop-k-preserved : goal.loop-k-preserved
 unfolding array_at
 loop-k-preserved c = 
+    let within : (k : ℕ) → k < c.array_count-count.result → k < length (arrays_of c.args.kind) = λ k h. omega (arith, c.array_count-count.ensures) in
+    let end : (k : ℕ) → k < c.array_count-count.result → 2 * c.args.p.n * k + 2 * c.args.p.n ≤ length (numbers_from c.args.bytes.now) = λ k h. omega (arith, c.requires.1, numbers_length c.args.bytes.now, end_of_array c.args.kind c.args.p.n k (within k h)) in
     let checked : outcome (own (set_of c.args.p) (set_at (set_of c.args.p) (arrays_of c.args.kind) (numbers_from c.args.bytes.now) c.loop-k.k) (array_at (set_of c.args.p) c.loop-k.k (numbers_from c.args.bytes.now)) ∷ []) (tt {0}) ≡ answered c.stored_array_refusal.result = let x = numbers_from c.args.bytes.now in
     let k = c.loop-k.k in
     let w = 2 * c.args.p.n in
-    let long : length (take w (drop (w * k) x)) ≡ w = length-take-le w (drop (w * k) x) (omega (arith, length-drop (w * k) x, end (goal.at.loop-k-preserved c).After-array_count-count k c.loop-k-test.true)) in
+    let long : length (take w (drop (w * k) x)) ≡ w = length-take-le w (drop (w * k) x) (omega (arith, length-drop (w * k) x, end k c.loop-k-test.true)) in
     sym (own_check (set_of c.args.p) (get_or (arrays_of c.args.kind) k ReducedModuloQ) (take w (drop (w * k) x)) c.requires.0 long) ∙ sym c.stored_array_refusal.ensures in
     let h = c.loop-k-test.true in (
       omega (arith, h),
       omega (arith, c.loop-k.invariant.1),
       c.loop-k.invariant.2
-          ∙ array_passed (set_of c.args.p) (arrays_of c.args.kind) (numbers_from c.args.bytes.now) c.loop-k.k (within (goal.at.loop-k-preserved c).After-array_count-count c.loop-k.k h) (checked ∙ ap answered c.in-Done.is),
+          ∙ array_passed (set_of c.args.p) (arrays_of c.args.kind) (numbers_from c.args.bytes.now) c.loop-k.k (within c.loop-k.k h) (checked ∙ ap answered c.in-Done.is),
     )
 
 pub returns : goal.returns

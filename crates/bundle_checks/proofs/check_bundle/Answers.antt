@@ -1,0 +1,39 @@
+-- `check_bundle` meets its contract: the head, the count and the length, then the entries.
+use mathlib.Core.Path.{◌≡◌, sym, ◌∙◌, ap}
+use mathlib.Core.List.{List}
+use Prim.Native.Nat.{ℕ}
+use borrow.Author.Rules.{rules}
+use Rattle.refusals.specs.Outcomes.{outcome, Passes}
+use Rattle.refusals.proofs.Checks.{passed_all, refused_first}
+use Rattle.parameters.specs.Sets.{set_of, made}
+use Rattle.heads.specs.Heads.{head_of}
+use Rattle.bundles.specs.Bundles.{entries_of}
+use Rattle.bundles.specs.Calls.{count_checks, entries_checks, bundle_checks, reading_parameters}
+use Rattle.bundles.proofs.MadeParameters.{made_accepted, made_refused}
+use Rattle.bundle_checks.proofs.check_bundle.Goals as goal
+use Rattle.bundle_checks.proofs.check_bundle.Goals.{Start}
+
+abbrev file : Start → List ℕ
+file s = s.args.file.now
+
+pub judged-requires : goal.judged-requires
+unfolding bundle_checks reading_parameters
+judged-requires c = 
+    let head_is : made c.read_bundle_head.result ≡ outcome (count_checks (file (goal.at.judged-requires c).Start)) (head_of (file (goal.at.judged-requires c).Start)) = c.read_bundle_head.ensures in
+    let accepted : Passes (count_checks (file (goal.at.judged-requires c).Start)) × (head_of (file (goal.at.judged-requires c).Start) ≡ set_of c.in-Accepted.p) = made_accepted (count_checks (file (goal.at.judged-requires c).Start)) (head_of (file (goal.at.judged-requires c).Start)) c.in-Accepted.p (sym (ap made c.in-Accepted.is) ∙ head_is) in
+    let a = accepted in (sym a.1, a.0)
+
+pub returns-in-Accepted : goal.returns-in-Accepted
+unfolding bundle_checks reading_parameters
+returns-in-Accepted c = 
+    let head_is : made c.read_bundle_head.result ≡ outcome (count_checks (file (goal.at.returns-in-Accepted c).Start)) (head_of (file (goal.at.returns-in-Accepted c).Start)) = c.read_bundle_head.ensures in
+    let accepted : Passes (count_checks (file (goal.at.returns-in-Accepted c).Start)) × (head_of (file (goal.at.returns-in-Accepted c).Start) ≡ set_of c.in-Accepted.p) = made_accepted (count_checks (file (goal.at.returns-in-Accepted c).Start)) (head_of (file (goal.at.returns-in-Accepted c).Start)) c.in-Accepted.p (sym (ap made c.in-Accepted.is) ∙ head_is) in
+    c.judged.ensures ∙ sym (passed_all (count_checks (file (goal.at.returns-in-Accepted c).Start)) (entries_checks (head_of (file (goal.at.returns-in-Accepted c).Start)) (entries_of (file (goal.at.returns-in-Accepted c).Start))) (head_of (file (goal.at.returns-in-Accepted c).Start)) accepted.0)
+
+pub returns-in-Refused : goal.returns-in-Refused
+unfolding bundle_checks reading_parameters
+returns-in-Refused c = 
+    let head_is : made c.read_bundle_head.result ≡ outcome (count_checks (file (goal.at.returns-in-Refused c).Start)) (head_of (file (goal.at.returns-in-Refused c).Start)) = c.read_bundle_head.ensures in
+    sym
+    (refused_first (count_checks (file (goal.at.returns-in-Refused c).Start)) (entries_checks (head_of (file (goal.at.returns-in-Refused c).Start)) (entries_of (file (goal.at.returns-in-Refused c).Start))) (head_of (file (goal.at.returns-in-Refused c).Start)) _
+    (made_refused (count_checks (file (goal.at.returns-in-Refused c).Start)) (head_of (file (goal.at.returns-in-Refused c).Start)) c.in-Refused.refusal (sym (ap made c.in-Refused.is) ∙ head_is)))

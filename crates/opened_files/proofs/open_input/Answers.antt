@@ -1,0 +1,10 @@
+-- `open_input` meets its contract.
+use mathlib.Core.Path.{sym, ◌∙◌, ap}
+use borrow.Author.Rules.{rules}
+use Rattle.parameters.specs.Sets.{made}
+use Rattle.opened_arrays.proofs.Answers.{gives_refusal}
+use Rattle.opened_files.proofs.InputParts.{input_refused}
+use Rattle.opened_files.proofs.open_input.Goals as goal
+
+pub returns-in-Refused : goal.returns-in-Refused
+returns-in-Refused c = gives_refusal (sym (input_refused _ c.in-Refused.refusal (sym c.read_head.ensures ∙ ap made c.in-Refused.is)))

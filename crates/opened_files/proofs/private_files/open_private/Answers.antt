@@ -1,0 +1,19 @@
+-- `open_private` meets its contract.
+use mathlib.Core.Path.{◌≡◌, sym, ap}
+use native.Mathlib.Omega.{arith}
+use borrow.Author.Rules.{rules}
+use lib.ListN.{length, take}
+use lib.Seq.{length-take-le}
+use Rattle.parameters.specs.Sets.{set_of}
+use Rattle.opened_arrays.proofs.Answers.{gives_as}
+use Rattle.opened_files.proofs.InputParts.{first_head, input_parted}
+use Rattle.opened_files.proofs.private_files.open_private.Goals as goal
+
+pub open_private_in-requires : goal.open_private_in-requires
+open_private_in-requires c = 
+    let all : length (take 8192 c.four_arrays-numbers.result) ≡ 8192 = length-take-le 8192 c.four_arrays-numbers.result (omega (arith, ap length c.four_arrays-numbers.ensures)) in
+    let e = c.first_end-end in
+    (first_head c.args.input.now (set_of c.args.p) e.result c.requires e.ensures, all)
+
+pub returns : goal.returns
+returns c = gives_as (input_parted c.args.input.now (set_of c.args.p) c.first_end-end.result c.requires c.first_end-end.ensures) c.open_private_in.ensures

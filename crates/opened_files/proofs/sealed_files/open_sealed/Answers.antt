@@ -1,0 +1,26 @@
+-- `open_sealed` meets its contract.
+use mathlib.Core.Path.{sym, ◌∙◌, ap, subst}
+use Prim.Native.Nat.{ℕ, ◌≤◌}
+use native.Mathlib.Omega.{arith}
+use borrow.Author.Rules.{rules}
+use lib.ListN.{length, take}
+use lib.Seq.{length-take-le}
+use Rattle.refusals.specs.Outcomes.{outcome}
+use Rattle.refusals.proofs.Checks.{refused_first}
+use Rattle.parameters.specs.Sets.{set_of, made}
+use Rattle.parameters.proofs.AcceptedParameters.{accepted_parameters}
+use Rattle.files.proofs.Bounds.{numbers_few}
+use Rattle.opened_files.specs.Pairs.{file_checks, inverse_checks}
+use Rattle.opened_files.specs.Steps.{KeyRead}
+use Rattle.opened_arrays.proofs.Answers.{gives_refusal}
+use Rattle.opened_files.proofs.ReadFiles.{head_refused}
+use Rattle.opened_files.proofs.ReadKeys.{key_answered}
+use Rattle.opened_files.proofs.sealed_files.open_sealed.Goals as goal
+
+pub open_sealed_in-requires : goal.open_sealed_in-requires
+open_sealed_in-requires c = 
+    let key_read : KeyRead (set_of c.args.p) (take c.file_numbers-k.result c.args.numbers.now) = subst (λ (k : ℕ). KeyRead (set_of c.args.p) (take k c.args.numbers.now)) (sym c.file_numbers-k.ensures) c.requires.0 in
+    record { key_read = c.requires; key_value = key_answered (set_of c.args.p) (take c.file_numbers-k.result c.args.numbers.now) key_read c.key_refusal-key.result c.key_refusal-key.ensures ∙ ap (λ (n : ℕ). outcome (inverse_checks (set_of c.args.p) (take n c.args.numbers.now)) (tt {0})) c.file_numbers-k.ensures; file_value = sym c.read_head.ensures ∙ ap made c.in-Accepted.is }
+
+pub returns-in-Refused : goal.returns-in-Refused
+returns-in-Refused c = gives_refusal (sym (refused_first (file_checks 3 c.args.file.now) _ _ _ (head_refused 3 _ c.in-Refused.refusal (sym c.read_head.ensures ∙ ap made c.in-Refused.is))))

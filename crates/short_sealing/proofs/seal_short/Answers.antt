@@ -1,0 +1,16 @@
+-- `seal_short` meets its contract.
+use mathlib.Core.Path.{sym, ◌∙◌, ap}
+use mathlib.Core.List.{◌++◌}
+use borrow.Author.Rules.{rules}
+use lib.ListN.{length}
+use Rattle.refusals.specs.Numbers.{answered}
+use Rattle.refusals.proofs.Checks.{refused_first, gives_refused}
+use Rattle.parameters.specs.Sets.{set_of, parameter_checks}
+use Rattle.short_scheme.specs.Calls.{short_sealing_checks, short_sealing}
+use Rattle.short_sealing.proofs.seal_short.Goals as goal
+
+pub returns-in-Refused : goal.returns-in-Refused
+unfolding short_sealing
+returns-in-Refused c = let p = set_of c.args.p in
+    let checks = short_sealing_checks p c.args.h.now c.args.phi.now (length c.args.message.now) (length c.args.e.now) in
+    gives_refused (parameter_checks p ++ checks) _ c.args.e.now _ (refused_first (parameter_checks p) checks tt _ (sym c.check.ensures ∙ ap answered c.in-Refused.is))
