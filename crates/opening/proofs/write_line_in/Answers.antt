@@ -12,8 +12,7 @@ use Rattle.opened_arrays.specs.Answers.{GivesMessage}
 use Rattle.opened_arrays.specs.declared.Opened.{Opened}
 use Rattle.opened_arrays.specs.declared.Opened.TheVariants.{Message, Refused}
 use Rattle.opening.specs.Program.{opening_line, opened_is}
-use Rattle.opening.proofs.write_line_in.Statement.{statement}
-use Rattle.opening.proofs.write_line_in.Tie as tie
+use Rattle.opening.proofs.write_line_in.Goals as goal
 
 -- what was opened is in the bytes that were lent for it
 opened-is : (o : Outcome (List ℕ)) (r : Opened) (old new : List ℕ) → GivesMessage o r old new → opened_is r new ≡ o
@@ -22,16 +21,7 @@ opened-is (done m) (Refused r) old new g = absurd (never_done _ (length m) g.ans
 opened-is (refused k) (Message n) old new g = absurd (never_done k n (sym g.answer))
 opened-is (refused k) (Refused r) old new g = cc
 
-pub write_line_in_spec : {M : Type 1} → statement M
+pub returns : goal.returns
 unfolding opening_line
-write_line_in_spec =
-    tie.close
-    (tie.spec
-    (λ c κs. search rules)
-    (λ c κs. search rules)
-    (λ c. search rules)
-    (λ c.
-    let w = c.before.before in
-    let s = w.before.before.before.before.before.before.before.before in
-    let e = ap line_of (opened-is _ _ _ _ c.before.before.before.before.before.before.open-input.ensures) in
-    (w.write-opened.ensures.0 ∙ ap length e, w.write-opened.ensures.1 ∙ ap (λ (x : List ℕ). x ++ drop w.write-opened.result s.args.line.now) e)))
+returns c = let e = ap line_of (opened-is _ _ _ _ c.open_input-opened.ensures) in
+    (c.write_opened.ensures.0 ∙ ap length e, c.write_opened.ensures.1 ∙ ap (λ (x : List ℕ). x ++ drop c.write_opened.result c.args.line.now) e)

@@ -1,0 +1,13 @@
+-- `open_entry` meets its contract: the parameters' refusals, then the part's.
+use mathlib.Core.Path.{refl, sym, ◌∙◌, ap}
+use borrow.Author.Rules.{rules}
+use lib.ListN.{length}
+use Rattle.refusals.specs.Numbers.{answered}
+use Rattle.refusals.proofs.Checks.{gives_same}
+use Rattle.parameters.specs.Sets.{set_of}
+use Rattle.entry_opening.proofs.Promises.{parameters_refused}
+use Rattle.entry_opening.proofs.open_entry.Goals as goal
+
+pub returns-in-Refused : goal.returns-in-Refused
+returns-in-Refused c = gives_same c.args.message.now
+    (parameters_refused (set_of c.args.p) c.args.f.now c.args.f2.now c.args.part.now (length c.args.message.now) (sym c.check.ensures ∙ ap answered c.in-Refused.is)) (refl, refl)
