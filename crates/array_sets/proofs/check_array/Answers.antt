@@ -18,7 +18,7 @@ checks s = array_checks (P s) s.args.which s.args.x.now
 
 pub returns-in-Done : goal.returns-in-Done
 unfolding array_check
-returns-in-Done c = 
+returns-in-Done c =
     let accepted : Passes (parameter_checks (P (goal.at.returns-in-Done c).Start)) = sym c.check.ensures ∙ ap answered c.in-Done.is in
     c.array_refusal.ensures ∙ sym (passed_all (parameter_checks (P (goal.at.returns-in-Done c).Start)) (checks (goal.at.returns-in-Done c).Start) tt accepted)
 

@@ -18,21 +18,21 @@ file s = s.args.file.now
 
 pub judged-requires : goal.judged-requires
 unfolding bundle_checks reading_parameters
-judged-requires c = 
+judged-requires c =
     let head_is : made c.read_bundle_head.result ≡ outcome (count_checks (file (goal.at.judged-requires c).Start)) (head_of (file (goal.at.judged-requires c).Start)) = c.read_bundle_head.ensures in
     let accepted : Passes (count_checks (file (goal.at.judged-requires c).Start)) × (head_of (file (goal.at.judged-requires c).Start) ≡ set_of c.in-Accepted.p) = made_accepted (count_checks (file (goal.at.judged-requires c).Start)) (head_of (file (goal.at.judged-requires c).Start)) c.in-Accepted.p (sym (ap made c.in-Accepted.is) ∙ head_is) in
     let a = accepted in (sym a.1, a.0)
 
 pub returns-in-Accepted : goal.returns-in-Accepted
 unfolding bundle_checks reading_parameters
-returns-in-Accepted c = 
+returns-in-Accepted c =
     let head_is : made c.read_bundle_head.result ≡ outcome (count_checks (file (goal.at.returns-in-Accepted c).Start)) (head_of (file (goal.at.returns-in-Accepted c).Start)) = c.read_bundle_head.ensures in
     let accepted : Passes (count_checks (file (goal.at.returns-in-Accepted c).Start)) × (head_of (file (goal.at.returns-in-Accepted c).Start) ≡ set_of c.in-Accepted.p) = made_accepted (count_checks (file (goal.at.returns-in-Accepted c).Start)) (head_of (file (goal.at.returns-in-Accepted c).Start)) c.in-Accepted.p (sym (ap made c.in-Accepted.is) ∙ head_is) in
     c.judged.ensures ∙ sym (passed_all (count_checks (file (goal.at.returns-in-Accepted c).Start)) (entries_checks (head_of (file (goal.at.returns-in-Accepted c).Start)) (entries_of (file (goal.at.returns-in-Accepted c).Start))) (head_of (file (goal.at.returns-in-Accepted c).Start)) accepted.0)
 
 pub returns-in-Refused : goal.returns-in-Refused
 unfolding bundle_checks reading_parameters
-returns-in-Refused c = 
+returns-in-Refused c =
     let head_is : made c.read_bundle_head.result ≡ outcome (count_checks (file (goal.at.returns-in-Refused c).Start)) (head_of (file (goal.at.returns-in-Refused c).Start)) = c.read_bundle_head.ensures in
     sym
     (refused_first (count_checks (file (goal.at.returns-in-Refused c).Start)) (entries_checks (head_of (file (goal.at.returns-in-Refused c).Start)) (entries_of (file (goal.at.returns-in-Refused c).Start))) (head_of (file (goal.at.returns-in-Refused c).Start)) _

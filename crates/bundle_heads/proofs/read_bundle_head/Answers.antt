@@ -21,7 +21,7 @@ length_check file p = 7 if not (right_length p.N (count_of file) (length file)) 
 
 pub returns-in-Accepted : goal.returns-in-Accepted
 unfolding reading_parameters count_checks reading_head
-returns-in-Accepted c = 
+returns-in-Accepted c =
     let head_is : let file = c.args.file.now in made c.read_head.result ≡ outcome (bundle_head_checks file) (head_of file) = c.read_head.ensures in
     let file = c.args.file.now in
     let p = c.in-Accepted.p in
@@ -32,7 +32,7 @@ returns-in-Accepted c =
 
 pub returns-in-Refused : goal.returns-in-Refused
 unfolding reading_parameters count_checks reading_head
-returns-in-Refused c = 
+returns-in-Refused c =
     let head_is : let file = c.args.file.now in made c.read_head.result ≡ outcome (bundle_head_checks file) (head_of file) = c.read_head.ensures in
     let file = c.args.file.now in
     sym (refused_first (bundle_head_checks file) (length_check file (head_of file)) (head_of file) _ (made_refused (bundle_head_checks file) (head_of file) c.in-Refused.refusal (sym (ap made c.in-Refused.is) ∙ head_is)))

@@ -21,14 +21,14 @@ outputs s = output_checks (file s) (length s.args.stops.now) (length s.args.numb
 
 pub read_entries-requires : goal.read_entries-requires
 unfolding reading_stops reading_numbers reading_checks reading_parameters
-read_entries-requires c = 
+read_entries-requires c =
     let head_is : made c.read_bundle_head.result ≡ outcome (count_checks (file (goal.at.read_entries-requires c).Start)) (head_of (file (goal.at.read_entries-requires c).Start)) = c.read_bundle_head.ensures in
     let accepted : Passes (count_checks (file (goal.at.read_entries-requires c).Start)) × (head_of (file (goal.at.read_entries-requires c).Start) ≡ set_of c.in-Accepted.p) = made_accepted (count_checks (file (goal.at.read_entries-requires c).Start)) (head_of (file (goal.at.read_entries-requires c).Start)) c.in-Accepted.p (sym (ap made c.in-Accepted.is) ∙ head_is) in
     let a = accepted in (sym a.1, a.0)
 
 pub returns-in-Accepted : goal.returns-in-Accepted
 unfolding reading_stops reading_numbers reading_checks reading_parameters
-returns-in-Accepted c = 
+returns-in-Accepted c =
     let head_is : made c.read_bundle_head.result ≡ outcome (count_checks (file (goal.at.returns-in-Accepted c).Start)) (head_of (file (goal.at.returns-in-Accepted c).Start)) = c.read_bundle_head.ensures in
     let accepted : Passes (count_checks (file (goal.at.returns-in-Accepted c).Start)) × (head_of (file (goal.at.returns-in-Accepted c).Start) ≡ set_of c.in-Accepted.p) = made_accepted (count_checks (file (goal.at.returns-in-Accepted c).Start)) (head_of (file (goal.at.returns-in-Accepted c).Start)) c.in-Accepted.p (sym (ap made c.in-Accepted.is) ∙ head_is) in
     let e = c.read_entries.ensures in
@@ -36,7 +36,7 @@ returns-in-Accepted c =
 
 pub returns-in-Refused : goal.returns-in-Refused
 unfolding reading_stops reading_numbers reading_checks reading_parameters
-returns-in-Refused c = 
+returns-in-Refused c =
     let head_is : made c.read_bundle_head.result ≡ outcome (count_checks (file (goal.at.returns-in-Refused c).Start)) (head_of (file (goal.at.returns-in-Refused c).Start)) = c.read_bundle_head.ensures in
     let f = refused_first (count_checks (file (goal.at.returns-in-Refused c).Start)) (outputs (goal.at.returns-in-Refused c).Start) tt _ (made_refused (count_checks (file (goal.at.returns-in-Refused c).Start)) (head_of (file (goal.at.returns-in-Refused c).Start)) c.in-Refused.refusal (sym (ap made c.in-Refused.is) ∙ head_is)) in
     record { gives = gives_refused (count_checks (file (goal.at.returns-in-Refused c).Start) ++ outputs (goal.at.returns-in-Refused c).Start) _ c.args.stops.now _ f; gives_2 = gives_refused (count_checks (file (goal.at.returns-in-Refused c).Start) ++ outputs (goal.at.returns-in-Refused c).Start) _ c.args.numbers.now _ f }

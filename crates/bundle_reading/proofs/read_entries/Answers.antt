@@ -29,14 +29,14 @@ abbrev entries : Start → List Check
 entries s = entries_checks (head_of (file s)) (entries_of (file s))
 
 pub returns-then-not-outputs_right : goal.returns-then-not-outputs_right
-returns-then-not-outputs_right c = 
+returns-then-not-outputs_right c =
     let tested : c.outputs_right.result ≡ right_outputs (head_of (file (goal.at.returns-then-not-outputs_right c).Start)).N (count_of (file (goal.at.returns-then-not-outputs_right c).Start)) (length c.args.stops.now) (length c.args.numbers.now) = c.outputs_right.ensures ∙ ap (λ (p : ParameterSet). right_outputs p.N (count_of (file (goal.at.returns-then-not-outputs_right c).Start)) (length c.args.stops.now) (length c.args.numbers.now)) c.requires.0 in
     let e = call_refused 7 (entries (goal.at.returns-then-not-outputs_right c).Start) tt tested (ap not c.if-not-outputs_right.true) in
     record { gives = gives_refused (checks (goal.at.returns-then-not-outputs_right c).Start) _ c.args.stops.now 7 e; gives_2 = gives_refused (checks (goal.at.returns-then-not-outputs_right c).Start) _ c.args.numbers.now 7 e }
 
 pub returns-in-Accepted : goal.returns-in-Accepted
 unfolding bundle_checks
-returns-in-Accepted c = 
+returns-in-Accepted c =
     let tested : c.outputs_right.result ≡ right_outputs (head_of (file (goal.at.returns-in-Accepted c).Start)).N (count_of (file (goal.at.returns-in-Accepted c).Start)) (length c.args.stops.now) (length c.args.numbers.now) = c.outputs_right.ensures ∙ ap (λ (p : ParameterSet). right_outputs p.N (count_of (file (goal.at.returns-in-Accepted c).Start)) (length c.args.stops.now) (length c.args.numbers.now)) c.requires.0 in
     let right : T (right_outputs (head_of (file (goal.at.returns-in-Accepted c).Start)).N (count_of (file (goal.at.returns-in-Accepted c).Start)) (length c.args.stops.now) (length c.args.numbers.now)) = holds tested (ap not c.if-not-outputs_right.false) in
     let outputs : (length c.args.stops.now ≡ count_of (file (goal.at.returns-in-Accepted c).Start)) × (length c.args.numbers.now ≡ 2 * (head_of (file (goal.at.returns-in-Accepted c).Start)).N * count_of (file (goal.at.returns-in-Accepted c).Start)) = are_equal_2 _ _ _ _ right in
@@ -47,7 +47,7 @@ returns-in-Accepted c =
 
 pub returns-in-Refused : goal.returns-in-Refused
 unfolding bundle_checks
-returns-in-Refused c = 
+returns-in-Refused c =
     let tested : c.outputs_right.result ≡ right_outputs (head_of (file (goal.at.returns-in-Refused c).Start)).N (count_of (file (goal.at.returns-in-Refused c).Start)) (length c.args.stops.now) (length c.args.numbers.now) = c.outputs_right.ensures ∙ ap (λ (p : ParameterSet). right_outputs p.N (count_of (file (goal.at.returns-in-Refused c).Start)) (length c.args.stops.now) (length c.args.numbers.now)) c.requires.0 in
     let right : T (right_outputs (head_of (file (goal.at.returns-in-Refused c).Start)).N (count_of (file (goal.at.returns-in-Refused c).Start)) (length c.args.stops.now) (length c.args.numbers.now)) = holds tested (ap not c.if-not-outputs_right.false) in
     let passed_7 : outcome (checks (goal.at.returns-in-Refused c).Start) (tt {0}) ≡ outcome (entries (goal.at.returns-in-Refused c).Start) (tt {0}) = holds_passed 7 (right_outputs (head_of (file (goal.at.returns-in-Refused c).Start)).N (count_of (file (goal.at.returns-in-Refused c).Start)) (length c.args.stops.now) (length c.args.numbers.now)) (entries (goal.at.returns-in-Refused c).Start) tt right in

@@ -17,14 +17,14 @@ pub returns-then-not-stands_at : goal.returns-then-not-stands_at
 returns-then-not-stands_at c = sym (part_past _ _ (sym c.stands_at.ensures ∙ c.if-not-stands_at.true))
 
 pub overflow_add-from : goal.overflow_add-from
-overflow_add-from c = 
+overflow_add-from c =
     let N : ℕ = (head_of c.args.bytes.now).N in
     let standing : stands_at c.args.bytes.now c.args.at ≡ true = sym c.stands_at.ensures ∙ c.if-not-stands_at.false in
     let within : c.args.at + (2 + 4 * N) ≤ length c.args.bytes.now = omega (arith, ends_within _ _ standing, entry_length_lem N) in
     omega (arith, within)
 
 pub overflow_add-to : goal.overflow_add-to
-overflow_add-to c = 
+overflow_add-to c =
     let N : ℕ = (head_of c.args.bytes.now).N in
     let standing : stands_at c.args.bytes.now c.args.at ≡ true = sym c.stands_at.ensures ∙ c.if-not-stands_at.false in
     let within : c.args.at + (2 + 4 * N) ≤ length c.args.bytes.now = omega (arith, ends_within _ _ standing, entry_length_lem N) in
@@ -32,19 +32,19 @@ overflow_add-to c =
     omega (arith, within, long)
 
 pub slice_bounds-result-count : goal.slice_bounds-result-count
-slice_bounds-result-count c = 
+slice_bounds-result-count c =
     let N : ℕ = (head_of c.args.bytes.now).N in
     let long : c.entry_length.result ≡ 2 + 4 * N = c.entry_length.ensures ∙ ap entry_length c.coefficient_count-n.ensures.0 ∙ entry_length_lem N in
     omega (arith, long)
 
 pub slice_bounds-result-start : goal.slice_bounds-result-start
-slice_bounds-result-start c = 
+slice_bounds-result-start c =
     let N : ℕ = (head_of c.args.bytes.now).N in
     let long : c.entry_length.result ≡ 2 + 4 * N = c.entry_length.ensures ∙ ap entry_length c.coefficient_count-n.ensures.0 ∙ entry_length_lem N in
     omega (arith, long)
 
 pub slice_bounds-result-end-2 : goal.slice_bounds-result-end-2
-slice_bounds-result-end-2 c = 
+slice_bounds-result-end-2 c =
     let N : ℕ = (head_of c.args.bytes.now).N in
     let standing : stands_at c.args.bytes.now c.args.at ≡ true = sym c.stands_at.ensures ∙ c.if-not-stands_at.false in
     let within : c.args.at + (2 + 4 * N) ≤ length c.args.bytes.now = omega (arith, ends_within _ _ standing, entry_length_lem N) in
@@ -52,7 +52,7 @@ slice_bounds-result-end-2 c =
     omega (arith, within, long)
 
 pub returns : goal.returns
-returns c = 
+returns c =
     let standing : stands_at c.args.bytes.now c.args.at ≡ true = sym c.stands_at.ensures ∙ c.if-not-stands_at.false in
     let N : ℕ = (head_of c.args.bytes.now).N in
     let long : c.entry_length.result ≡ 2 + 4 * N = c.entry_length.ensures ∙ ap entry_length c.coefficient_count-n.ensures.0 ∙ entry_length_lem N in

@@ -13,18 +13,18 @@ use Rattle.bundle_steps.proofs.next_entry.Goals as goal
 
 pub returns-then-not-stands_at : goal.returns-then-not-stands_at
 unfolding stored_at stop_in
-returns-then-not-stands_at c = 
+returns-then-not-stands_at c =
     let none : stands_at c.args.bytes.now c.args.at.now ≡ false = sym c.stands_at.ensures ∙ c.if-not-stands_at.true in
     record { value = (sym none, sym (next_past _ _ none)); stop_after = simp none; part_after = simp none }
 
 pub overflow_add-part : goal.overflow_add-part
 unfolding stored_at stop_in
-overflow_add-part c = 
+overflow_add-part c =
     let standing : stands_at c.args.bytes.now c.args.at.now ≡ true = sym c.stands_at.ensures ∙ c.if-not-stands_at.false in
     omega (arith, ends_within _ _ standing, entry_length_lem (head_of c.args.bytes.now).N)
 
 pub returns : goal.returns
 unfolding stored_at stop_in
-returns c = 
+returns c =
     let standing : stands_at c.args.bytes.now c.args.at.now ≡ true = sym c.stands_at.ensures ∙ c.if-not-stands_at.false in
     record { value = (sym standing, c.next_at-next.ensures); stop_after = simp standing c.stop_in-number.ensures.0; part_after = simp standing }

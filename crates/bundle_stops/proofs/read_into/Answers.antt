@@ -11,7 +11,7 @@ use Rattle.bundles.proofs.Entries.{stops_count, stop_is}
 use Rattle.bundle_stops.proofs.read_into.Goals as goal
 
 pub loop-k-preserved : goal.loop-k-preserved
-loop-k-preserved c = 
+loop-k-preserved c =
     let within : c.loop-k.k < count_of c.args.file.now = omega (arith, c.loop-k-test.true, c.loop-k.invariant.1.long, c.requires.0) in
     let h = c.loop-k-test.true in
     (omega (arith, h, c.loop-k.invariant.1.long), set_next 0 c.loop-k.invariant.1 h (c.stop_of-stop.ensures.0 ∙ sym (stop_is c.args.file.now c.loop-k.k within)))

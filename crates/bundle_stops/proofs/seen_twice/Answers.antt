@@ -14,7 +14,7 @@ loop-k-init c = let e = c.entry_count-k.ensures.0 in
     (omega (arith, e), none_seen c.args.words.now (stops_of (entries_of c.args.file.now)) c.entry_count-k.result (e ∙ sym (stops_count c.args.file.now)) c.requires)
 
 pub returns-then-add : goal.returns-then-add
-returns-then-add c = 
+returns-then-add c =
     let turn : Turn c.loop-k.words (stops_of (entries_of c.args.file.now)) c.loop-k.k c.add.result c.add.new.words = let file = c.args.file.now in
     let stops = stops_of (entries_of file) in
     let k = c.loop-k.k - 1 in
@@ -32,7 +32,7 @@ returns-then-add c =
     sym (turn_found _ _ _ _ _ turn c.if-add.true)
 
 pub loop-k-preserved : goal.loop-k-preserved
-loop-k-preserved c = 
+loop-k-preserved c =
     let turn : Turn c.loop-k.words (stops_of (entries_of c.args.file.now)) c.loop-k.k c.add.result c.add.new.words = let file = c.args.file.now in
     let stops = stops_of (entries_of file) in
     let k = c.loop-k.k - 1 in

@@ -10,7 +10,7 @@ use Rattle.bundle_stops.proofs.stop_of.Goals as goal
 
 pub overflow_mul-width : goal.overflow_mul-width
 unfolding entry_start
-overflow_mul-width c = 
+overflow_mul-width c =
     let small : c.entry_length-width.result * c.args.k ≤ (2 + 4 * 65535) * 65535 = let n = c.coefficient_count-n in
     let short : c.entry_length-width.result ≤ 2 + 4 * 65535 = omega (arith, c.entry_length-width.ensures, entry_length_lem n.result, n.ensures.1) in
     let few : c.args.k ≤ 65535 = omega (arith, c.requires) in
@@ -19,7 +19,7 @@ overflow_mul-width c =
 
 pub overflow_add-width : goal.overflow_add-width
 unfolding entry_start
-overflow_add-width c = 
+overflow_add-width c =
     let small : c.entry_length-width.result * c.args.k ≤ (2 + 4 * 65535) * 65535 = let n = c.coefficient_count-n in
     let short : c.entry_length-width.result ≤ 2 + 4 * 65535 = omega (arith, c.entry_length-width.ensures, entry_length_lem n.result, n.ensures.1) in
     let few : c.args.k ≤ 65535 = omega (arith, c.requires) in

@@ -26,13 +26,13 @@ right s = right_given s.args.p.n (length s.args.stops.now) (length s.args.number
 
 pub returns-then-not-lengths_right : goal.returns-then-not-lengths_right
 unfolding entries_checks
-returns-then-not-lengths_right c = 
+returns-then-not-lengths_right c =
     let tested : c.lengths_right.result ≡ right (goal.at.returns-then-not-lengths_right c).Start = c.lengths_right.ensures in
     sym (call_refused 7 _ _ tested (ap not c.if-not-lengths_right.true))
 
 pub returns-then-twice : goal.returns-then-twice
 unfolding entries_checks
-returns-then-twice c = 
+returns-then-twice c =
     let twice : c.any_twice-twice.result ≡ any_twice (stops_of (entries (goal.at.returns-then-twice c).Start)) = c.any_twice-twice.ensures ∙ ap any_twice (sym (given_stops c.args.p.n c.args.stops.now c.args.numbers.now)) in
     let tested : c.lengths_right.result ≡ right (goal.at.returns-then-twice c).Start = c.lengths_right.ensures in
     let passed_7 : outcome (given_checks (set_of c.args.p) c.args.stops.now c.args.numbers.now c.args.room) (tt {0}) ≡ outcome (entries_checks (set_of c.args.p) (entries (goal.at.returns-then-twice c).Start)) (tt {0}) = call_passed 7 _ _ tested (ap not c.if-not-lengths_right.false) in
@@ -40,7 +40,7 @@ returns-then-twice c =
 
 pub returns : goal.returns
 unfolding entries_checks
-returns c = 
+returns c =
     let twice : c.any_twice-twice.result ≡ any_twice (stops_of (entries (goal.at.returns c).Start)) = c.any_twice-twice.ensures ∙ ap any_twice (sym (given_stops c.args.p.n c.args.stops.now c.args.numbers.now)) in
     let tested : c.lengths_right.result ≡ right (goal.at.returns c).Start = c.lengths_right.ensures in
     let passed_7 : outcome (given_checks (set_of c.args.p) c.args.stops.now c.args.numbers.now c.args.room) (tt {0}) ≡ outcome (entries_checks (set_of c.args.p) (entries (goal.at.returns c).Start)) (tt {0}) = call_passed 7 _ _ tested (ap not c.if-not-lengths_right.false) in

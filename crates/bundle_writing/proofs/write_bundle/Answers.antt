@@ -12,7 +12,7 @@ use Rattle.bundle_writing.proofs.write_bundle.Goals as goal
 
 pub returns-in-Refused : goal.returns-in-Refused
 unfolding writing_bundle writing_checks
-returns-in-Refused c = 
+returns-in-Refused c =
     let checked : answered c.check.result ≡ outcome (parameter_checks (set_of c.args.p)) (tt {0}) = c.check.ensures in
     let p = set_of c.args.p in
     let rest = given_checks p c.args.stops.now c.args.numbers.now (length c.args.file.now) in

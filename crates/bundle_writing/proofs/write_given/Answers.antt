@@ -30,7 +30,7 @@ whole s = passed_all (parameter_checks (set_of s.args.p)) (checks s) tt s.requir
 
 pub write_file-requires : goal.write_file-requires
 unfolding writing_bundle
-write_file-requires c = 
+write_file-requires c =
     let all_passed : Passes (writing_checks (set_of c.args.p) c.args.stops.now c.args.numbers.now (room (goal.at.write_file-requires c).Start)) = whole (goal.at.write_file-requires c).Start ∙ sym c.given_refusal.ensures ∙ ap answered c.in-Done.is in
     let written_by : Written (set_of c.args.p) c.args.stops.now c.args.numbers.now (room (goal.at.write_file-requires c).Start) = writing_passed (set_of c.args.p) c.args.stops.now c.args.numbers.now (room (goal.at.write_file-requires c).Start) all_passed in
     let small : Small c.args.numbers.now = let p = set_of c.args.p in
@@ -41,7 +41,7 @@ write_file-requires c =
 
 pub returns-in-Done : goal.returns-in-Done
 unfolding writing_bundle
-returns-in-Done c = 
+returns-in-Done c =
     let all_passed : Passes (writing_checks (set_of c.args.p) c.args.stops.now c.args.numbers.now (room (goal.at.returns-in-Done c).Start)) = whole (goal.at.returns-in-Done c).Start ∙ sym c.given_refusal.ensures ∙ ap answered c.in-Done.is in
     gives_done (writing_checks (set_of c.args.p) c.args.stops.now c.args.numbers.now (room (goal.at.returns-in-Done c).Start)) _ c.args.file.now _ all_passed c.write_file.ensures
 

@@ -1,4 +1,5 @@
 -- `convolve` meets its contract.
+use mir.Syntax.{w32}
 use mathlib.Core.Path.{◌≡◌, sym, ◌∙◌, ap}
 use mathlib.Core.Bool.{Bool, true, false, cond}
 use mathlib.Core.List.{List, ◌++◌}
@@ -20,7 +21,7 @@ use Rattle.halved_products.specs.Calls.{beginning, answered, left}
 use Rattle.halved_products.proofs.Operands.{convolving_passed, convolvable_handed}
 use Rattle.convolution.proofs.Copies.{convolvable_to}
 use Rattle.convolution.proofs.convolve.Goals as goal
-use Rattle.convolution.proofs.convolve.Goals.{In-Passed-2, Start}
+use Rattle.convolution.proofs.convolve.Goals.{Start}
 
 abbrev P : Start → ParameterSet
 P s = set_of s.args.p
@@ -30,9 +31,6 @@ checks s = parameter_checks (P s) ++ convolving_checks (P s).N (P s).q s.args.x.
 
 abbrev value_of : Start → ℤ[ω] → List ℤ
 value_of s q = array (P s).N (λ i. mod_q q (convolution (P s).N (coefficient s.args.x.now) (coefficient s.args.y.now) i))
-
-abbrev start : In-Passed-2 → Start
-start c = c.before.before.before.before.before.before
 
 -- what was written, by direct sums or after them
 either : (t : Bool) (v o : List ℤ) {l w : List ℤ} → l ≡ cond t v o → w ≡ cond t l v → w ≡ v
@@ -45,25 +43,23 @@ refused_any {A} {B} cs a b n e = outcome_carried (λ (_ : A). b) cs a ∙ ap (ca
 
 pub convolve_unless-requires : goal.convolve_unless-requires
 unfolding convolving beginning
-convolve_unless-requires c = 
+convolve_unless-requires c =
     let formed : Bool = c.in-Passed.formed in
     let told : outcome (checks (goal.at.convolve_unless-requires c).Start) (leb (P (goal.at.convolve_unless-requires c).Start).N 16) ≡ done formed = sym c.convolve_up_to_16.ensures.0 ∙ ap answered c.in-Passed.is in
     let all_passed : Passes (checks (goal.at.convolve_unless-requires c).Start) × (leb (P (goal.at.convolve_unless-requires c).Start).N 16 ≡ formed) = done_parts (checks (goal.at.convolve_unless-requires c).Start) (leb (P (goal.at.convolve_unless-requires c).Start).N 16) formed told in
-    let s = start (goal.at.convolve_unless-requires c).In-Passed-2 in
     let o = c.convolve_up_to_16 in
-    (sym all_passed.1, convolvable_handed (P s).N s.args.x.now s.args.y.now o.new.1.1.1.0 (search rules) (search rules) (convolvable_to o.new.1.1.1.0 o.auto.1.1.1.0 (convolving_passed (P s) s.args.x.now s.args.y.now s.args.out.now all_passed.0)))
+    (sym all_passed.1, convolvable_handed (P (goal.at.convolve_unless-requires c).Start).N c.args.x.now c.args.y.now o.new.out (search rules) (search rules) (convolvable_to o.new.out o.auto.out (convolving_passed (P (goal.at.convolve_unless-requires c).Start) c.args.x.now c.args.y.now c.args.out.now all_passed.0)))
 
 pub returns-in-Passed : goal.returns-in-Passed
 unfolding convolving beginning
-returns-in-Passed c = 
+returns-in-Passed c =
     let formed : Bool = c.in-Passed.formed in
     let told : outcome (checks (goal.at.returns-in-Passed c).Start) (leb (P (goal.at.returns-in-Passed c).Start).N 16) ≡ done formed = sym c.convolve_up_to_16.ensures.0 ∙ ap answered c.in-Passed.is in
     let all_passed : Passes (checks (goal.at.returns-in-Passed c).Start) × (leb (P (goal.at.returns-in-Passed c).Start).N 16 ≡ formed) = done_parts (checks (goal.at.returns-in-Passed c).Start) (leb (P (goal.at.returns-in-Passed c).Start).N 16) formed told in
-    let s = start (goal.at.returns-in-Passed c).In-Passed-2 in
     let begun = c.convolve_up_to_16 in
-    let v = value_of s (P s).q in
-    let o = done_with (checks s) v all_passed.0 in
-    (sym (ap number o), either formed v s.args.out.now (begun.ensures.1 ∙ ap (λ (x : Outcome Bool). left x v s.args.out.now) told) (c.convolve_unless.ensures ∙ ap (λ (q : ℤ[ω]). cond formed begun.new.1.1.1.0 (value_of s q)) (pair_read (search rules) (search rules))) ∙ sym (ap (λ (x : Outcome (List ℤ)). written x s.args.out.now) o))
+    let v = value_of (goal.at.returns-in-Passed c).Start (P (goal.at.returns-in-Passed c).Start).q in
+    let o = done_with (checks (goal.at.returns-in-Passed c).Start) v all_passed.0 in
+    (sym (ap number o), either formed v c.args.out.now (begun.ensures.1 ∙ ap (λ (x : Outcome Bool). left x v c.args.out.now) told) (c.convolve_unless.ensures ∙ ap (λ (q : ℤ[ω]). cond formed begun.new.out (value_of (goal.at.returns-in-Passed c).Start q)) (pair_read {w = w32} (search rules) (search rules))) ∙ sym (ap (λ (x : Outcome (List ℤ)). written x c.args.out.now) o))
 
 pub returns-in-Refused : goal.returns-in-Refused
 unfolding convolving beginning

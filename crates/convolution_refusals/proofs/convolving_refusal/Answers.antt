@@ -16,7 +16,7 @@ use Rattle.convolution_refusals.specs.Checks.{convolving_checks}
 use Rattle.convolution_refusals.proofs.convolving_refusal.Goals as goal
 
 pub operand_refusal-requires : goal.operand_refusal-requires
-operand_refusal-requires c = 
+operand_refusal-requires c =
     let accepted : Passes (parameter_checks (set_of c.args.p)) = sym c.check.ensures ∙ ap answered c.in-Done.is in
     let modulus : let p = c.args.p in Modulus (value p.c p.d) = let p = set_of c.args.p in
     let a = accepted_parameters p accepted in
@@ -24,7 +24,7 @@ operand_refusal-requires c =
     modulus_handed {w = w32} (search rules) (search rules) modulus
 
 pub returns-in-Done : goal.returns-in-Done
-returns-in-Done c = 
+returns-in-Done c =
     let accepted : Passes (parameter_checks (set_of c.args.p)) = sym c.check.ensures ∙ ap answered c.in-Done.is in
     let read_q : let p = c.args.p in value (to_z w32 (of_z w32 p.c)) (to_z w32 (of_z w32 p.d)) ≡ value p.c p.d = pair_read {w = w32} (search rules) (search rules) in
     c.operand_refusal.ensures

@@ -33,6 +33,6 @@ result_is c =
 
 pub overflow_cast-result : goal.overflow_cast-result
 overflow_cast-result c = (
-      subst (λ (z : ℤ). T (non_neg z)) (sym (result_is c)) tt,
-      record { fits = omega (arith, ap nat_abs (result_is c), norm-bound (x c.before) (2 ^ 15) (a_size c.before) (b_size c.before)) },
-    )
+  subst (λ (z : ℤ). T (non_neg z)) (sym (result_is c)) tt,
+  record { fits = omega (arith, ap nat_abs (result_is c), norm-bound (x c.before) (2 ^ 15) (a_size c.before) (b_size c.before)) },
+)

@@ -36,7 +36,7 @@ record Read (s : Start) (p : ParameterSet) : Type 0 where
 
 pub read_content-requires : goal.read_content-requires
 unfolding reading reading_checks reading_head
-read_content-requires c = 
+read_content-requires c =
     let head_is : made c.read_head.result ≡ outcome (head (goal.at.read_content-requires c).Start ++ parameter_checks (P (goal.at.read_content-requires c).Start)) (P (goal.at.read_content-requires c).Start) = c.read_head.ensures in
     let head_read : Read (goal.at.read_content-requires c).Start (set_of c.in-Accepted.p) = let p = set_of c.in-Accepted.p in
     let k = done_all (head (goal.at.read_content-requires c).Start) (parameter_checks (P (goal.at.read_content-requires c).Start)) (P (goal.at.read_content-requires c).Start) p (sym head_is ∙ ap made c.in-Accepted.is) in
@@ -46,7 +46,7 @@ read_content-requires c =
 
 pub returns-in-Accepted : goal.returns-in-Accepted
 unfolding reading reading_checks reading_head
-returns-in-Accepted c = 
+returns-in-Accepted c =
     let head_is : made c.read_head.result ≡ outcome (head (goal.at.returns-in-Accepted c).Start ++ parameter_checks (P (goal.at.returns-in-Accepted c).Start)) (P (goal.at.returns-in-Accepted c).Start) = c.read_head.ensures in
     let head_read : Read (goal.at.returns-in-Accepted c).Start (set_of c.in-Accepted.p) = let p = set_of c.in-Accepted.p in
     let k = done_all (head (goal.at.returns-in-Accepted c).Start) (parameter_checks (P (goal.at.returns-in-Accepted c).Start)) (P (goal.at.returns-in-Accepted c).Start) p (sym head_is ∙ ap made c.in-Accepted.is) in
@@ -60,7 +60,7 @@ returns-in-Accepted c =
 
 pub returns-in-Refused : goal.returns-in-Refused
 unfolding reading reading_checks reading_head
-returns-in-Refused c = 
+returns-in-Refused c =
     let head_is : made c.read_head.result ≡ outcome (head (goal.at.returns-in-Refused c).Start ++ parameter_checks (P (goal.at.returns-in-Refused c).Start)) (P (goal.at.returns-in-Refused c).Start) = c.read_head.ensures in
     let head_refused : outcome (head (goal.at.returns-in-Refused c).Start ++ (parameter_checks (P (goal.at.returns-in-Refused c).Start) ++ content (goal.at.returns-in-Refused c).Start (P (goal.at.returns-in-Refused c).Start))) (value_of (goal.at.returns-in-Refused c).Start) ≡ refused (number_of c.in-Refused.refusal) = let r = c.in-Refused.refusal in
     let cs = head (goal.at.returns-in-Refused c).Start ++ parameter_checks (P (goal.at.returns-in-Refused c).Start) in

@@ -12,14 +12,14 @@ use Rattle.head_reading.proofs.read_head.Goals as goal
 
 pub head_parameters-requires : goal.head_parameters-requires
 unfolding reading_head parameters
-head_parameters-requires c = 
+head_parameters-requires c =
     let refusal_is : answered c.head_refusal.result ≡ outcome (head_checks c.args.kind c.args.file.now) (tt {0}) = c.head_refusal.ensures in
     let passed : Passes (head_checks c.args.kind c.args.file.now) = sym refusal_is ∙ ap answered c.in-Done.is in
     (head_passed c.args.kind c.args.file.now passed).long
 
 pub returns-in-Done : goal.returns-in-Done
 unfolding reading_head parameters
-returns-in-Done c = 
+returns-in-Done c =
     let refusal_is : answered c.head_refusal.result ≡ outcome (head_checks c.args.kind c.args.file.now) (tt {0}) = c.head_refusal.ensures in
     let passed : Passes (head_checks c.args.kind c.args.file.now) = sym refusal_is ∙ ap answered c.in-Done.is in
     c.head_parameters.ensures
@@ -27,6 +27,6 @@ returns-in-Done c =
 
 pub returns-in-Refused : goal.returns-in-Refused
 unfolding reading_head parameters
-returns-in-Refused c = 
+returns-in-Refused c =
     let refusal_is : answered c.head_refusal.result ≡ outcome (head_checks c.args.kind c.args.file.now) (tt {0}) = c.head_refusal.ensures in
     sym (refused_first (head_checks c.args.kind c.args.file.now) (parameter_checks (head_of c.args.file.now)) (head_of c.args.file.now) _ (sym refusal_is ∙ ap answered c.in-Refused.is))

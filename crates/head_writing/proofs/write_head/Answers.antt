@@ -22,20 +22,20 @@ checks s = head_writing_checks s.args.kind (set_of s.args.p) (length s.args.file
 
 pub write_bytes-requires : goal.write_bytes-requires
 unfolding writing_head
-write_bytes-requires c = 
+write_bytes-requires c =
     let refusal_is : answered c.writing_refusal.result ≡ outcome (checks (goal.at.write_bytes-requires c).Start) (tt {0}) = c.writing_refusal.ensures in
     let all_passed : Passes (checks (goal.at.write_bytes-requires c).Start) = sym refusal_is ∙ ap answered c.in-Done.is in
     writing_passed c.args.kind (set_of c.args.p) (length c.args.file.now) all_passed
 
 pub returns-in-Done : goal.returns-in-Done
 unfolding writing_head
-returns-in-Done c = 
+returns-in-Done c =
     let refusal_is : answered c.writing_refusal.result ≡ outcome (checks (goal.at.returns-in-Done c).Start) (tt {0}) = c.writing_refusal.ensures in
     let all_passed : Passes (checks (goal.at.returns-in-Done c).Start) = sym refusal_is ∙ ap answered c.in-Done.is in
     gives_same c.args.file.now (done_with (checks (goal.at.returns-in-Done c).Start) (value_of (goal.at.returns-in-Done c).Start) all_passed) (refl, c.write_bytes.ensures)
 
 pub returns-in-Refused : goal.returns-in-Refused
 unfolding writing_head
-returns-in-Refused c = 
+returns-in-Refused c =
     let refusal_is : answered c.writing_refusal.result ≡ outcome (checks (goal.at.returns-in-Refused c).Start) (tt {0}) = c.writing_refusal.ensures in
     gives_same c.args.file.now (refused_with (checks (goal.at.returns-in-Refused c).Start) (value_of (goal.at.returns-in-Refused c).Start) _ (sym refusal_is ∙ ap answered c.in-Refused.is)) (refl, refl)

@@ -22,7 +22,7 @@ value_of s = array s.args.p.n (public_key (set_of s.args.p) (coefficient s.args.
 
 pub returns-in-Done : goal.returns-in-Done
 unfolding key_check
-returns-in-Done c = 
+returns-in-Done c =
     let all_passed : Passes (checks (goal.at.returns-in-Done c).Start) = sym c.key_refusal.ensures ∙ ap answered c.in-Done.is in
     gives_done (checks (goal.at.returns-in-Done c).Start) (value_of (goal.at.returns-in-Done c).Start) c.args.h.now _ all_passed c.write_public_key.ensures
 

@@ -22,14 +22,14 @@ value_of s = array s.args.n (packed s.args.message.now)
 
 pub pack_into-requires : goal.pack_into-requires
 unfolding packing
-pack_into-requires c = 
+pack_into-requires c =
     let all_passed : Passes (checks (goal.at.pack_into-requires c).Start) = sym c.packing_refusal.ensures ∙ ap answered c.in-Done.is in
     let k = packing_passed c.args.n c.args.message.now (length c.args.m.now) (all_passed) in
     (k.0, k.2)
 
 pub returns-in-Done : goal.returns-in-Done
 unfolding packing
-returns-in-Done c = 
+returns-in-Done c =
     let all_passed : Passes (checks (goal.at.returns-in-Done c).Start) = sym c.packing_refusal.ensures ∙ ap answered c.in-Done.is in
     gives_done (checks (goal.at.returns-in-Done c).Start) (value_of (goal.at.returns-in-Done c).Start) c.args.m.now _ (all_passed) c.pack_into.ensures
 

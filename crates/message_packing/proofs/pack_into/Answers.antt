@@ -12,7 +12,7 @@ use Rattle.arrays.proofs.Changing.{Changed, changed_none, stored_next, stored_al
 use Rattle.message_packing.proofs.pack_into.Goals as goal
 
 pub loop-i-preserved : goal.loop-i-preserved
-loop-i-preserved c = 
+loop-i-preserved c =
     let inside : 2 * c.loop-i.i + 1 < length c.loop-i.m = omega (arith, c.loop-i-test.true, c.loop-i.invariant.1.long, c.requires.1) in
     let r = c.pair_of-v in
     (omega (arith, c.loop-i-test.true), stored_next c.loop-i.invariant.1 refl (inside) (pair_read {w = w32} {a = r.result.a} {b = r.result.b} (search rules) (search rules) ∙ r.ensures))

@@ -34,20 +34,20 @@ returns-then-out_of_range c = sym (refused_by 1 _ tt (sym c.out_of_range.ensures
 
 pub returns-then-not-message_and_array_full : goal.returns-then-not-message_and_array_full
 unfolding packing_checks
-returns-then-not-message_and_array_full c = 
+returns-then-not-message_and_array_full c =
     let after_1 : outcome (from_1 (goal.at.returns-then-not-message_and_array_full c).Start) (tt {0}) ≡ outcome (from_7 (goal.at.returns-then-not-message_and_array_full c).Start) (tt {0}) = passed 1 _ tt (sym c.out_of_range.ensures ∙ c.if-out_of_range.false) in
     sym (after_1 ∙ call_refused 7 _ tt c.message_and_array_full.ensures (ap not c.if-not-message_and_array_full.true))
 
 pub returns-then-spare_bit_set : goal.returns-then-spare_bit_set
 unfolding packing_checks
-returns-then-spare_bit_set c = 
+returns-then-spare_bit_set c =
     let after_1 : outcome (from_1 (goal.at.returns-then-spare_bit_set c).Start) (tt {0}) ≡ outcome (from_7 (goal.at.returns-then-spare_bit_set c).Start) (tt {0}) = passed 1 _ tt (sym c.out_of_range.ensures ∙ c.if-out_of_range.false) in
     let after_7 : outcome (from_1 (goal.at.returns-then-spare_bit_set c).Start) (tt {0}) ≡ outcome (from_15 (goal.at.returns-then-spare_bit_set c).Start) (tt {0}) = after_1 ∙ call_passed 7 _ tt c.message_and_array_full.ensures (ap not c.if-not-message_and_array_full.false) in
     sym (after_7 ∙ refused_by 15 _ tt (sym c.spare_bit_set.ensures ∙ c.if-spare_bit_set.true))
 
 pub returns : goal.returns
 unfolding packing_checks
-returns c = 
+returns c =
     let after_1 : outcome (from_1 (goal.at.returns c).Start) (tt {0}) ≡ outcome (from_7 (goal.at.returns c).Start) (tt {0}) = passed 1 _ tt (sym c.out_of_range.ensures ∙ c.if-out_of_range.false) in
     let after_7 : outcome (from_1 (goal.at.returns c).Start) (tt {0}) ≡ outcome (from_15 (goal.at.returns c).Start) (tt {0}) = after_1 ∙ call_passed 7 _ tt c.message_and_array_full.ensures (ap not c.if-not-message_and_array_full.false) in
     sym (after_7 ∙ passed 15 _ tt (sym c.spare_bit_set.ensures ∙ c.if-spare_bit_set.false) ∙ none_left tt)

@@ -22,13 +22,13 @@ value_of s = unpacked s.args.n (coefficient s.args.m.now)
 
 pub unpack_into-requires : goal.unpack_into-requires
 unfolding unpacking
-unpack_into-requires c = 
+unpack_into-requires c =
     let all_passed : Passes (checks (goal.at.unpack_into-requires c).Start) = sym c.unpacking_refusal.ensures ∙ ap answered c.in-Done.is in
     unpacking_passed c.args.n c.args.m.now (length c.args.message.now) all_passed
 
 pub returns-in-Done : goal.returns-in-Done
 unfolding unpacking
-returns-in-Done c = 
+returns-in-Done c =
     let all_passed : Passes (checks (goal.at.returns-in-Done c).Start) = sym c.unpacking_refusal.ensures ∙ ap answered c.in-Done.is in
     gives_done (checks (goal.at.returns-in-Done c).Start) (value_of (goal.at.returns-in-Done c).Start) c.args.message.now _ all_passed c.unpack_into.ensures
 

@@ -33,7 +33,7 @@ abbrev outcome_of : Start → Outcome (List ℕ)
 outcome_of s = opening (set_of s.args.p) s.args.f.now s.args.f2.now s.args.e.now (message_bytes s.args.p.n)
 
 pub returns-in-Done : goal.returns-in-Done
-returns-in-Done c = 
+returns-in-Done c =
     let part : (c.least-k.result ≤ length c.args.message.now) × (length (take c.least-k.result c.args.message.now) ≡ c.least-k.result) = let room : c.least-k.result ≤ length c.args.message.now = omega (arith, c.least-k.ensures, c.requires) in
     (room, length-take-le _ c.args.message.now room) in
     let lent : c.least-k.result ≡ min (message_bytes c.args.p.n) 256 = c.least-k.ensures ∙ ap (λ (k : ℕ). min k 256) c.message_bytes.ensures in
@@ -47,7 +47,7 @@ returns-in-Done c =
     gives_as (sym o) (record { answer = ap done long; left = ap (λ (j : ℕ). new ++ drop j old) long })
 
 pub returns-in-Refused : goal.returns-in-Refused
-returns-in-Refused c = 
+returns-in-Refused c =
     let lent : c.least-k.result ≡ min (message_bytes c.args.p.n) 256 = c.least-k.ensures ∙ ap (λ (k : ℕ). min k 256) c.message_bytes.ensures in
     let part : (c.least-k.result ≤ length c.args.message.now) × (length (take c.least-k.result c.args.message.now) ≡ c.least-k.result) = let room : c.least-k.result ≤ length c.args.message.now = omega (arith, c.least-k.ensures, c.requires) in
     (room, length-take-le _ c.args.message.now room) in

@@ -15,20 +15,20 @@ use Rattle.opened_arrays.proofs.Answers.{gives_as, gives_refusal}
 use Rattle.opened_arrays.proofs.open_pair.Goals as goal
 
 pub returns-then-not-same_parameters : goal.returns-then-not-same_parameters
-returns-then-not-same_parameters c = 
+returns-then-not-same_parameters c =
     let opened : Outcome (List ℕ) = opening_arrays (set_of c.args.p) c.args.numbers.now in
     let with_key : Answer → Outcome (List ℕ) = λ key. first (answered key) opened in
     gives_refusal (sym (ap (λ (x : Outcome (Unit {0})). first x (with_key c.args.key)) (call_refused 20 [] (tt {0}) c.same_parameters.ensures (ap not c.if-not-same_parameters.true))))
 
 pub returns-in-Done : goal.returns-in-Done
-returns-in-Done c = 
+returns-in-Done c =
     let opened : Outcome (List ℕ) = opening_arrays (set_of c.args.p) c.args.numbers.now in
     let with_key : Answer → Outcome (List ℕ) = λ key. first (answered key) opened in
     let passed_20 : outcome (20 if not (same_set (set_of c.args.p) (set_of c.args.sealed)) ∷ []) (tt {0}) ≡ done (tt {0}) = call_passed 20 [] (tt {0}) c.same_parameters.ensures (ap not c.if-not-same_parameters.false) ∙ none_left (tt {0}) in
     gives_as (sym (ap₂ first passed_20 (ap with_key c.in-Done.is))) c.open_arrays.ensures
 
 pub returns-in-Refused : goal.returns-in-Refused
-returns-in-Refused c = 
+returns-in-Refused c =
     let opened : Outcome (List ℕ) = opening_arrays (set_of c.args.p) c.args.numbers.now in
     let with_key : Answer → Outcome (List ℕ) = λ key. first (answered key) opened in
     let passed_20 : outcome (20 if not (same_set (set_of c.args.p) (set_of c.args.sealed)) ∷ []) (tt {0}) ≡ done (tt {0}) = call_passed 20 [] (tt {0}) c.same_parameters.ensures (ap not c.if-not-same_parameters.false) ∙ none_left (tt {0}) in

@@ -27,7 +27,7 @@ as_line l l' old {r} e h g =
     (w.0 ∙ ap length e, w.1 ∙ ap (λ (k : ℕ). l ++ drop k old) (sym w.0) ∙ ap (λ (x : List ℕ). x ++ drop r old) e)
 
 pub returns-in-Message : goal.returns-in-Message
-returns-in-Message c = 
+returns-in-Message c =
     let short : c.least-end.result ≤ length c.args.message.now = subst (λ (k : ℕ). k ≤ length c.args.message.now) (sym c.least-end.ensures) (min-le_right c.in-Message.n (length c.args.message.now)) in
     let part : length (take c.least-end.result c.args.message.now) ≡ c.least-end.result = length-take-le c.least-end.result c.args.message.now short in
     let m = c.args.message.now in

@@ -20,7 +20,7 @@ loop-i-preserved c =
     let none : PlacedUnit = record { place = 0; unit = 0 } in (
       omega (arith, c.loop-i-test.true),
       ap (λ (l : List ℕ). set (set l (2 * i) (get_or rs i none).place) (2 * i + 1) (get_or rs i none).unit) c.loop-i.invariant.1
-      ∙ one_more 1024 i rs none (omega (arith, c.loop-i-test.true, c.at_most_1024-end.ensures)) (omega (arith, c.loop-i-test.true, c.at_most_1024-end.ensures)),
+          ∙ one_more 1024 i rs none (omega (arith, c.loop-i-test.true, c.at_most_1024-end.ensures)) (omega (arith, c.loop-i-test.true, c.at_most_1024-end.ensures)),
     )
 
 pub returns : goal.returns

@@ -50,7 +50,7 @@ asked s h =
     (p.0, (done_holds 7 (lengths s) [] _ _ p.1).0)
 
 pub spread_into-requires : goal.spread_into-requires
-spread_into-requires c = 
+spread_into-requires c =
     let before_places_lem : answered c.and.result ≡ outcome (from_7 (P (goal.at.spread_into-requires c).Start) (lengths (goal.at.spread_into-requires c).Start) []) tt = c.and.ensures ∙ and_lengths (P (goal.at.spread_into-requires c).Start) (lengths (goal.at.spread_into-requires c).Start) c.has_lengths-lengths.ensures c.check.ensures c.when.ensures in
     let all_asked : Passes (parameter_checks (P (goal.at.spread_into-requires c).Start)) × T (lengths (goal.at.spread_into-requires c).Start) = asked (goal.at.spread_into-requires c).Start (sym before_places_lem ∙ ap answered c.in-Done.is) in
     let a = all_asked in
@@ -58,7 +58,7 @@ spread_into-requires c =
     (a.0, e.0, e.1)
 
 pub returns-in-Done : goal.returns-in-Done
-returns-in-Done c = 
+returns-in-Done c =
     let before_places_lem : answered c.and.result ≡ outcome (from_7 (P (goal.at.returns-in-Done c).Start) (lengths (goal.at.returns-in-Done c).Start) []) tt = c.and.ensures ∙ and_lengths (P (goal.at.returns-in-Done c).Start) (lengths (goal.at.returns-in-Done c).Start) c.has_lengths-lengths.ensures c.check.ensures c.when.ensures in
     let all_asked : Passes (parameter_checks (P (goal.at.returns-in-Done c).Start)) × T (lengths (goal.at.returns-in-Done c).Start) = asked (goal.at.returns-in-Done c).Start (sym before_places_lem ∙ ap answered c.in-Done.is) in
     let g = c.spread_into.ensures in
@@ -66,7 +66,7 @@ returns-in-Done c =
     gives_same c.args.phi.now (by_count (goal.at.returns-in-Done c).Start ∙ passed_all (parameter_checks (P (goal.at.returns-in-Done c).Start)) _ _ a.0 ∙ holds_passed 7 (lengths (goal.at.returns-in-Done c).Start) _ _ a.1) g
 
 pub returns-in-Refused : goal.returns-in-Refused
-returns-in-Refused c = 
+returns-in-Refused c =
     let before_places_lem : answered c.and.result ≡ outcome (from_7 (P (goal.at.returns-in-Refused c).Start) (lengths (goal.at.returns-in-Refused c).Start) []) tt = c.and.ensures ∙ and_lengths (P (goal.at.returns-in-Refused c).Start) (lengths (goal.at.returns-in-Refused c).Start) c.has_lengths-lengths.ensures c.check.ensures c.when.ensures in
     gives_same c.args.phi.now (by_count (goal.at.returns-in-Refused c).Start) (gives_refused (from_7 (P (goal.at.returns-in-Refused c).Start) (lengths (goal.at.returns-in-Refused c).Start) (place_checks (P (goal.at.returns-in-Refused c).Start) (places (goal.at.returns-in-Refused c).Start))) (value_of (goal.at.returns-in-Refused c).Start) c.args.phi.now _
     (ap (λ (l : List Check). outcome l (tt {0})) (sym (append_assoc (parameter_checks (P (goal.at.returns-in-Refused c).Start)) (7 if not (lengths (goal.at.returns-in-Refused c).Start) ∷ []) (place_checks (P (goal.at.returns-in-Refused c).Start) (places (goal.at.returns-in-Refused c).Start))))

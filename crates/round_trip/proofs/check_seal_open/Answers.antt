@@ -27,7 +27,7 @@ whole s x = next (seals s x) (λ e. opening (set_of s.args.p) s.args.f.now s.arg
 
 pub returns-in-Done : goal.returns-in-Done
 unfolding round_trip checked_sealing
-returns-in-Done c = 
+returns-in-Done c =
     let checked_is : checks (goal.at.returns-in-Done c).Start ≡ done c.check_key.new.h = key_done (set_of c.args.p) c.args.f.now c.args.f2.now c.args.fq.now c.args.g.now (length c.args.h.now) c.args.h.now _ c.check_key.result c.in-Done.is c.check_key.ensures in
     let d = checked_is in
     let k = c.seal_and_open.ensures in

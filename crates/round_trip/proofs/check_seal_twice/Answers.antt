@@ -26,7 +26,7 @@ whole s x = next x (λ h. sealing_twice (set_of s.args.p) h s.args.phi1.now s.ar
 
 pub returns-in-Done : goal.returns-in-Done
 unfolding checked_sealing checked_sealing_twice
-returns-in-Done c = 
+returns-in-Done c =
     let checked_is : checks (goal.at.returns-in-Done c).Start ≡ done c.check_key.new.h = key_done (set_of c.args.p) c.args.f.now c.args.f2.now c.args.fq.now c.args.g.now (length c.args.h.now) c.args.h.now _ c.check_key.result c.in-Done.is c.check_key.ensures in
     let d = checked_is in
     let k = c.seal_twice.ensures in

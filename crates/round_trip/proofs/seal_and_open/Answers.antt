@@ -26,7 +26,7 @@ abbrev both : Start → Outcome (List ℤ) → Outcome (List ℕ)
 both s x = next x (opens s)
 
 pub returns-in-Done : goal.returns-in-Done
-returns-in-Done c = 
+returns-in-Done c =
     let sealed-is : seals (goal.at.returns-in-Done c).Start ≡ done c.seal.new.e = sealing_done (set_of c.args.p) c.args.h.now c.args.phi.now c.args.message.now (length c.args.e.now) c.args.e.now _ c.seal.result c.in-Done.is c.seal.ensures in
     let d = sealed-is in
     record { e_after = wrote_same c.args.e.now d; gives = gives_same c.args.opened.now (ap (both (goal.at.returns-in-Done c).Start) d) c.open.ensures }

@@ -23,7 +23,7 @@ both s x = next x (λ e. sealing (set_of s.args.p) s.args.h.now s.args.phi2.now 
 
 pub returns-in-Done : goal.returns-in-Done
 unfolding sealing_twice
-returns-in-Done c = 
+returns-in-Done c =
     let sealed-is : seals (goal.at.returns-in-Done c).Start ≡ done c.seal.new.e = sealing_done (set_of c.args.p) c.args.h.now c.args.phi1.now c.args.message1.now (length c.args.e1.now) c.args.e1.now _ c.seal.result c.in-Done.is c.seal.ensures in
     let d = sealed-is in
     record { e1_after = wrote_same c.args.e1.now d; gives = gives_same c.args.e2.now (ap (both (goal.at.returns-in-Done c).Start) d) c.seal-in-Done.ensures }

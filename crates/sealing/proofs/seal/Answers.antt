@@ -23,7 +23,7 @@ value_of s = array s.args.p.n (sealed (set_of s.args.p) (coefficient s.args.h.no
 
 pub returns-in-Done : goal.returns-in-Done
 unfolding sealing
-returns-in-Done c = 
+returns-in-Done c =
     let all_passed : Passes (checks (goal.at.returns-in-Done c).Start) = sym c.sealing_refusal.ensures ∙ ap answered c.in-Done.is in
     gives_done (checks (goal.at.returns-in-Done c).Start) (value_of (goal.at.returns-in-Done c).Start) c.args.e.now _ all_passed c.seal_into.ensures
 

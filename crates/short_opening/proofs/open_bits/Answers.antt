@@ -35,7 +35,7 @@ room : (s : Start) → opening (P s) s.args.f.now s.args.f2.now s.args.e.now (le
 room s = ap (opening (P s) s.args.f.now s.args.f2.now s.args.e.now) s.requires.0
 
 pub returns-in-Done : goal.returns-in-Done
-returns-in-Done c = 
+returns-in-Done c =
     let number_is : number (answered c.open.result) ≡ number (in_full (goal.at.returns-in-Done c).Start) = c.open.ensures.0 ∙ ap number (room (goal.at.returns-in-Done c).Start) in
     let new : List ℕ = c.open.new.message in
     let new_is : new ≡ written (in_full (goal.at.returns-in-Done c).Start) c.args.bits.now = c.open.ensures.1 ∙ ap (λ (o : Outcome (List ℕ)). written o c.args.bits.now) (room (goal.at.returns-in-Done c).Start) in
@@ -44,7 +44,7 @@ returns-in-Done c =
     gives_as (sym (lent (goal.at.returns-in-Done c).Start ∙ (readings_agree (P (goal.at.returns-in-Done c).Start) c.args.f.now c.args.f2.now c.args.e.now).reads bits o)) c.read_short.ensures
 
 pub returns-in-Refused : goal.returns-in-Refused
-returns-in-Refused c = 
+returns-in-Refused c =
     let number_is : number (answered c.open.result) ≡ number (in_full (goal.at.returns-in-Refused c).Start) = c.open.ensures.0 ∙ ap number (room (goal.at.returns-in-Refused c).Start) in
     let n = c.in-Refused.refusal in
     let o = answer_refused (in_full (goal.at.returns-in-Refused c).Start) c.open.result n number_is c.in-Refused.is in

@@ -35,7 +35,7 @@ refused_early p f F2 e room n h = go (outcome (parameter_checks p) (tt {0})) ref
     go (refused m) r = refused_first (parameter_checks p) _ _ m r ∙ ap refused (ap number (sym (refused_first (parameter_checks p) _ _ m r) ∙ h))
 
 pub open_checked-requires : goal.open_checked-requires
-open_checked-requires c = 
+open_checked-requires c =
     let answer_is : answered c.and.result ≡ outcome (first_checks (set_of c.args.p) (length c.args.message.now)) (tt {0}) = c.and.ensures
     ∙ and_checks (parameter_checks (set_of c.args.p)) (7 if not (eqb (length c.args.message.now) (longest_short c.args.p.n)) ∷ []) tt c.check.ensures
     (c.when.ensures ∙ ap (λ (k : ℕ). outcome (7 if not (eqb (length c.args.message.now) k) ∷ []) (tt {0})) c.longest_short.ensures) in
@@ -44,7 +44,7 @@ open_checked-requires c =
     (d.0, eqb→eq room (longest_short c.args.p.n) (done_holds 7 (eqb room (longest_short c.args.p.n)) [] _ _ d.1).0)
 
 pub returns-in-Refused : goal.returns-in-Refused
-returns-in-Refused c = 
+returns-in-Refused c =
     let answer_is : answered c.and.result ≡ outcome (first_checks (set_of c.args.p) (length c.args.message.now)) (tt {0}) = c.and.ensures
     ∙ and_checks (parameter_checks (set_of c.args.p)) (7 if not (eqb (length c.args.message.now) (longest_short c.args.p.n)) ∷ []) tt c.check.ensures
     (c.when.ensures ∙ ap (λ (k : ℕ). outcome (7 if not (eqb (length c.args.message.now) k) ∷ []) (tt {0})) c.longest_short.ensures) in

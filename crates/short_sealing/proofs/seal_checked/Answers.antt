@@ -49,16 +49,16 @@ pub returns-then-too_long : goal.returns-then-too_long
 returns-then-too_long c = refused_as (set_of c.args.p) c.args.h.now c.args.phi.now c.args.message.now (length c.args.e.now) (sym c.too_long.ensures ∙ c.if-too_long.true) c.short_sealing_refusal.result c.args.e.now c.short_sealing_refusal.ensures
 
 pub slice_bounds-bits-end : goal.slice_bounds-bits-end
-slice_bounds-bits-end c = 
+slice_bounds-bits-end c =
     let lent : Lent c.args.p.n c.message_bytes-k.result c.message_room-bits.result = lent_room (accepted_parameters (set_of c.args.p) c.requires).N_small c.message_bytes-k.ensures c.message_room-bits.ensures in
     lent.enough
 
 pub slice_bounds-seal_bits-end : goal.slice_bounds-seal_bits-end
-slice_bounds-seal_bits-end c = 
+slice_bounds-seal_bits-end c =
     let lent : Lent c.args.p.n c.message_bytes-k.result c.message_room-bits.result = lent_room (accepted_parameters (set_of c.args.p) c.requires).N_small c.message_bytes-k.ensures c.message_room-bits.ensures in
     sym lent.long
 
 pub seal_bits-requires : goal.seal_bits-requires
-seal_bits-requires c = 
+seal_bits-requires c =
     let lent : Lent c.args.p.n c.message_bytes-k.result c.message_room-bits.result = lent_room (accepted_parameters (set_of c.args.p) c.requires).N_small c.message_bytes-k.ensures c.message_room-bits.ensures in
     (ltb-false (2 * c.args.p.n) (8 * length c.args.message.now + 1) (sym c.too_long.ensures ∙ c.if-too_long.false), lent.for_message)

@@ -25,7 +25,7 @@ returns-then-bit_set c = let e : has c.args.words.now c.args.stop ≡ true = sym
 
 pub overflow_add-words : goal.overflow_add-words
 unfolding has
-overflow_add-words c = 
+overflow_add-words c =
     let stop : ℕ = c.args.stop in
     let words : List ℕ = c.args.words.now in
     let word : ℕ = get_or words (stop / 32) 0 in
@@ -36,7 +36,7 @@ overflow_add-words c =
 
 pub returns-else-bit_set : goal.returns-else-bit_set
 unfolding has
-returns-else-bit_set c = 
+returns-else-bit_set c =
     let words : List ℕ = c.args.words.now in
     let stop : ℕ = c.args.stop in
     let word : ℕ = get_or words (stop / 32) 0 in

@@ -10,7 +10,7 @@ pub loop-k-init : goal.loop-k-init
 loop-k-init c = (omega arith, none_seen c.args.words.now c.args.stops.now (length c.args.stops.now) refl c.requires)
 
 pub returns-then-add : goal.returns-then-add
-returns-then-add c = 
+returns-then-add c =
     let turn : Turn c.loop-k.words c.args.stops.now c.loop-k.k c.add.result c.add.new.words = record {
       positive = c.loop-k-test.true;
       within = c.loop-k.invariant.0;
@@ -22,7 +22,7 @@ returns-then-add c =
     sym (turn_found _ _ _ _ _ turn c.if-add.true)
 
 pub loop-k-preserved : goal.loop-k-preserved
-loop-k-preserved c = 
+loop-k-preserved c =
     let turn : Turn c.loop-k.words c.args.stops.now c.loop-k.k c.add.result c.add.new.words = record {
       positive = c.loop-k-test.true;
       within = c.loop-k.invariant.0;

@@ -8,6 +8,6 @@ use Rattle.stored_keys.proofs.EarlyRefusals.{set_refused}
 use Rattle.stored_keys.proofs.key_refusal.Goals as goal
 
 pub returns-in-Refused : goal.returns-in-Refused
-returns-in-Refused c = 
+returns-in-Refused c =
     let check_is : answered c.check.result ≡ outcome (parameter_checks (set_of c.args.p)) (tt {0}) = c.check.ensures in
     sym (ap number (set_refused (set_of c.args.p) c.args.numbers.now _ (sym check_is ∙ ap answered c.in-Refused.is)))

@@ -22,7 +22,7 @@ abbrev small : Start → Bool
 small s = all_small s.args.numbers.now
 
 pub write_into-requires : goal.write_into-requires
-write_into-requires c = 
+write_into-requires c =
     let right_length_lem : right (goal.at.write_into-requires c).Start ≡ true = sym c.two_each.ensures ∙ c.if-not-two_each.false in
     let all_small_lem : small (goal.at.write_into-requires c).Start ≡ true = sym c.all_small.ensures ∙ c.if-not-all_small.false in
     (eqb-true _ _ right_length_lem, are_within 5461 _ (subst T (sym all_small_lem) tt))

@@ -23,7 +23,7 @@ value_of s = unpacked s.args.p.n (opened (set_of s.args.p) (coefficient s.args.f
 
 pub returns-in-Done : goal.returns-in-Done
 unfolding opening
-returns-in-Done c = 
+returns-in-Done c =
     let all_passed : Passes (checks (goal.at.returns-in-Done c).Start) = sym c.opening_refusal.ensures ∙ ap answered c.in-Done.is in
     gives_done (checks (goal.at.returns-in-Done c).Start) (value_of (goal.at.returns-in-Done c).Start) c.args.message.now _ all_passed c.open_into.ensures
 

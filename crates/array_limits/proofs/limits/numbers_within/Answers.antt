@@ -26,10 +26,10 @@ loop-k-preserved c =
     let t : ℕ → Bool = test b c.args.x.now in
     let k : ℕ = c.loop-k.k in
     let beyond : ltb b (nat_abs (get_or c.args.x.now k (pos 0))) ≡ c.is_beyond.result =
-      sym (c.is_beyond.ensures ∙ ap (λ (z : ℤ). ltb b (nat_abs z)) (to_z-of_z {w = w32} {z = get_or c.args.x.now k (pos 0)} (search rules))) in (
+    sym (c.is_beyond.ensures ∙ ap (λ (z : ℤ). ltb b (nat_abs z)) (to_z-of_z {w = w32} {z = get_or c.args.x.now k (pos 0)} (search rules))) in (
       omega (arith, c.loop-k-test.true),
       elim c.if-is_beyond.branch [
-        then-is_beyond w ↦ w.within-is ∙ every_failed t k (ap not (beyond ∙ w.if-is_beyond.true))
+        | then-is_beyond w ↦ w.within-is ∙ every_failed t k (ap not (beyond ∙ w.if-is_beyond.true))
         | else-is_beyond w ↦ every_passed t k (w.within-is ∙ c.loop-k.invariant.1) (ap not (beyond ∙ w.if-is_beyond.false))
       ],
     )

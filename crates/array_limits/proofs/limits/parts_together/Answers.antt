@@ -17,9 +17,9 @@ loop-i-init c = (omega arith, every_none (test c.args.x.now))
 
 pub loop-i-preserved : goal.loop-i-preserved
 loop-i-preserved c = let t = test c.args.x.now in (
-      omega (arith, c.loop-i-test.true),
-      elim c.if-parts_apart_at.branch [
-        then-parts_apart_at w ↦ w.together-is ∙ every_failed t c.loop-i.i (ap not (sym c.parts_apart_at.ensures ∙ w.if-parts_apart_at.true))
-        | else-parts_apart_at w ↦ every_passed t c.loop-i.i (w.together-is ∙ c.loop-i.invariant.1) (ap not (sym c.parts_apart_at.ensures ∙ w.if-parts_apart_at.false))
-      ],
-    )
+  omega (arith, c.loop-i-test.true),
+  elim c.if-parts_apart_at.branch [
+    | then-parts_apart_at w ↦ w.together-is ∙ every_failed t c.loop-i.i (ap not (sym c.parts_apart_at.ensures ∙ w.if-parts_apart_at.true))
+    | else-parts_apart_at w ↦ every_passed t c.loop-i.i (w.together-is ∙ c.loop-i.invariant.1) (ap not (sym c.parts_apart_at.ensures ∙ w.if-parts_apart_at.false))
+  ],
+)

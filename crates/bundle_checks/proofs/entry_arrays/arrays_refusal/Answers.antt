@@ -19,11 +19,11 @@ pub slice_bounds-x-end : goal.slice_bounds-x-end
 slice_bounds-x-end c = omega (arith, few (goal.at.slice_bounds-x-end c).Start, ap length c.zeros-x.ensures)
 
 pub slice_bounds-arrays_refusal_in-end : goal.slice_bounds-arrays_refusal_in-end
-slice_bounds-arrays_refusal_in-end c = 
+slice_bounds-arrays_refusal_in-end c =
     let part : let n = c.args.p.n in length (take (2 * n) c.zeros-x.result) ≡ 2 * n = zeros_part c.args.p.n c.zeros-x.result (few (goal.at.slice_bounds-arrays_refusal_in-end c).Start) c.zeros-x.ensures in
     sym part
 
 pub arrays_refusal_in-requires : goal.arrays_refusal_in-requires
-arrays_refusal_in-requires c = 
+arrays_refusal_in-requires c =
     let part : let n = c.args.p.n in length (take (2 * n) c.zeros-x.result) ≡ 2 * n = zeros_part c.args.p.n c.zeros-x.result (few (goal.at.arrays_refusal_in-requires c).Start) c.zeros-x.ensures in
     (c.requires.0, c.requires.1, part)

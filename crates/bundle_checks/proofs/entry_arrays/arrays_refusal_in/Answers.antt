@@ -28,7 +28,7 @@ pub loop-k-init : goal.loop-k-init
 loop-k-init c = (omega arith, refl, sym (first_start (head_of c.args.file.now).N), refl)
 
 pub array_refusal-requires : goal.array_refusal-requires
-array_refusal-requires c = 
+array_refusal-requires c =
     let file : List ℕ = c.args.file.now in
     let P : ParameterSet = head_of file in
     let k : ℕ = c.loop-k.k in
@@ -39,7 +39,7 @@ array_refusal-requires c =
     omega (arith, long, room)
 
 pub returns-in-Refused : goal.returns-in-Refused
-returns-in-Refused c = 
+returns-in-Refused c =
     let file : List ℕ = c.args.file.now in
     let P : ParameterSet = head_of file in
     let k : ℕ = c.loop-k.k in
@@ -56,7 +56,7 @@ returns-in-Refused c =
     sym (c.loop-k.invariant.3 ∙ entry_refused P (entries_of file) k _ within_entries (checked ∙ ap answered c.in-Refused.is))
 
 pub loop-k-preserved : goal.loop-k-preserved
-loop-k-preserved c = 
+loop-k-preserved c =
     let file : List ℕ = c.args.file.now in
     let P : ParameterSet = head_of file in
     let k : ℕ = c.loop-k.k in
@@ -69,8 +69,7 @@ loop-k-preserved c =
     let full : length array ≡ 2 * P.N = ap (λ (x : List ℤ). length x) is ∙ numbers_length (part_at file c.loop-k.at) ∙ omega (arith, long) in
     sym (own_check P ReducedModuloQ array at_place.accepted full)
     ∙ ap₂ (λ (p : ParameterSet) (x : List ℤ). array_check p ReducedModuloQ x) (sym c.requires.0) is
-    ∙ sym c.array_refusal.ensures in
-    (
+    ∙ sym c.array_refusal.ensures in (
       omega (arith, c.loop-k-test.true),
       omega (arith, c.loop-k.invariant.1),
       c.next_at-at.ensures ∙ ap (next_at file) c.loop-k.invariant.2 ∙ next_entry file at_place k within,

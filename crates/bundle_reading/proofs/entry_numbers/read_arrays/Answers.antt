@@ -27,7 +27,7 @@ loop-k-init c = let N = (head_of c.args.file.now).N in
 
 pub loop-k-preserved : goal.loop-k-preserved
 unfolding numbers_of
-loop-k-preserved c = 
+loop-k-preserved c =
     let file : List ℕ = c.args.file.now in
     let k : ℕ = c.loop-k.k in
     let whole : Counted file = counted file c.requires.0 in
@@ -52,8 +52,7 @@ loop-k-preserved c =
     let put : take from c.loop-k.numbers ++ (c.read_numbers.new.numbers ++ drop width (drop from c.loop-k.numbers)) ≡ numbers_of (take (k + 1) (entries_of file)) ++ drop (2 * N * (k + 1)) c.args.numbers.now = let es = entries_of file in
     ap₂ (λ (a : ℕ) (x : List ℤ). take a c.loop-k.numbers ++ (x ++ drop width (drop a c.loop-k.numbers))) from_is read
     ∙ put_next (2 * N) k width c.args.numbers.now (numbers_of (take k es)) c.loop-k.numbers (array_of es k) c.loop-k.invariant.2 long_so_far width_is
-    ∙ ap (λ (x : List ℤ). x ++ drop (2 * N * (k + 1)) c.args.numbers.now) (sym (numbers_next es k (subst (λ (m : ℕ). k < m) (sym (entries_count file)) within))) in
-    (
+    ∙ ap (λ (x : List ℤ). x ++ drop (2 * N * (k + 1)) c.args.numbers.now) (sym (numbers_next es k (subst (λ (m : ℕ). k < m) (sym (entries_count file)) within))) in (
       omega (arith, within),
       c.next_at-at.ensures ∙ ap (next_at file) c.loop-k.invariant.1 ∙ next_entry file whole k within,
       put,
@@ -61,7 +60,7 @@ loop-k-preserved c =
 
 pub returns : goal.returns
 unfolding numbers_of
-returns c = 
+returns c =
     let all_read : c.loop-k.numbers ≡ numbers_of (entries_of c.args.file.now) = let es = entries_of c.args.file.now in
     let N = (head_of c.args.file.now).N in
     let last : c.loop-k.k ≡ count_of c.args.file.now = omega (arith, c.loop-k.invariant.0, c.loop-k-test.false, c.entry_count-count.ensures.0) in

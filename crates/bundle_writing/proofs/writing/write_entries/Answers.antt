@@ -21,7 +21,7 @@ loop-k-init c = (omega arith, sym (ap (λ (i : ℕ). drop i c.args.out.now) (mul
 
 pub write_entry-requires : goal.write_entry-requires
 unfolding entries_bytes
-write_entry-requires c = 
+write_entry-requires c =
     let n : ℕ = c.args.n in
     let k : ℕ = c.loop-k.k in
     let long : ℕ = c.entry_length-entry_bytes.result in
@@ -47,7 +47,7 @@ write_entry-requires c =
 
 pub loop-k-preserved : goal.loop-k-preserved
 unfolding entries_bytes
-loop-k-preserved c = 
+loop-k-preserved c =
     let k : ℕ = c.loop-k.k in
     let within : k < length c.args.stops.now = c.loop-k-test.true in
     let n : ℕ = c.args.n in
@@ -70,7 +70,7 @@ loop-k-preserved c =
 
 pub returns : goal.returns
 unfolding entries_bytes
-returns c = 
+returns c =
     let all-written : c.loop-k.out ≡ entries_bytes (entries_given c.args.n c.args.stops.now c.args.numbers.now) = let es = entries_given c.args.n c.args.stops.now c.args.numbers.now in
     let last : c.loop-k.k ≡ length c.args.stops.now = omega (arith, c.loop-k.invariant.0, c.loop-k-test.false) in
     put_all (entry_length c.args.n) c.loop-k.k c.args.out.now (entries_bytes (take c.loop-k.k es)) c.loop-k.out c.loop-k.invariant.1 (c.requires.numbers_len.1 ∙ ap (λ (m : ℕ). entry_length c.args.n * m) (sym last))

@@ -34,7 +34,7 @@ long s = stored_length s.args.out.now (s.args.stop / 256) (s.args.stop % 256) �
 
 pub returns : goal.returns
 unfolding entry_bytes bytes16
-returns c = 
+returns c =
     let written : take 2 (st (goal.at.returns c).Start) ++ (c.write_numbers.new.bytes ++ drop (length (st (goal.at.returns c).Start) - 2) (drop 2 (st (goal.at.returns c).Start))) ≡ entry_bytes (entry_is c.args.stop c.args.array.now) = let rest = take (length (st (goal.at.returns c).Start) - 2) (drop 2 (st (goal.at.returns c).Start)) in
     let room : length rest ≡ 2 * length c.args.array.now = ap (λ (x : List ℕ). length x) (rest_taken 2 (st (goal.at.returns c).Start)) ∙ length-drop 2 (st (goal.at.returns c).Start) ∙ omega (arith, long (goal.at.returns c).Start) in
     put_rest c.args.out.now (c.args.stop / 256) (c.args.stop % 256) c.write_numbers.new.bytes (omega (arith, c.requires.0))

@@ -36,14 +36,14 @@ head s = head_bytes bundle_kind (set_of s.args.p)
 
 pub write_count-requires : goal.write_count-requires
 unfolding bundle_of head_bytes bytes16 arrays_of
-write_count-requires c = 
+write_count-requires c =
     let headed : c.write_head-answer.new.file ≡ head (goal.at.write_count-requires c).Start ++ drop head_length c.args.file.now = head_written bundle_kind (set_of c.args.p) c.args.file.now tt c.requires.passes.0 (omega (arith, long (goal.at.write_count-requires c).Start)) c.write_head-answer.ensures in
     let headed_length : length c.write_head-answer.new.file ≡ length c.args.file.now = ap (λ (l : List ℕ). length l) headed ∙ length-append (head (goal.at.write_count-requires c).Start) (drop head_length c.args.file.now) ∙ omega (arith, length-drop head_length c.args.file.now, long (goal.at.write_count-requires c).Start) in
     (omega (arith, long (goal.at.write_count-requires c).Start, c.requires.file_len.1), omega (arith, headed_length, long (goal.at.write_count-requires c).Start))
 
 pub slice_bounds-write_entries-count : goal.slice_bounds-write_entries-count
 unfolding bundle_of head_bytes bytes16 arrays_of
-slice_bounds-write_entries-count c = 
+slice_bounds-write_entries-count c =
     let headed : c.write_head-answer.new.file ≡ head (goal.at.slice_bounds-write_entries-count c).Start ++ drop head_length c.args.file.now = head_written bundle_kind (set_of c.args.p) c.args.file.now tt c.requires.passes.0 (omega (arith, long (goal.at.slice_bounds-write_entries-count c).Start)) c.write_head-answer.ensures in
     let headed_length : length c.write_head-answer.new.file ≡ length c.args.file.now = ap (λ (l : List ℕ). length l) headed ∙ length-append (head (goal.at.slice_bounds-write_entries-count c).Start) (drop head_length c.args.file.now) ∙ omega (arith, length-drop head_length c.args.file.now, long (goal.at.slice_bounds-write_entries-count c).Start) in
     let counted_length : length c.write_count.new.file ≡ length c.args.file.now = ap (λ (l : List ℕ). length l) c.write_count.ensures
@@ -53,7 +53,7 @@ slice_bounds-write_entries-count c =
 
 pub slice_bounds-write_entries-start : goal.slice_bounds-write_entries-start
 unfolding bundle_of head_bytes bytes16 arrays_of
-slice_bounds-write_entries-start c = 
+slice_bounds-write_entries-start c =
     let headed : c.write_head-answer.new.file ≡ head (goal.at.slice_bounds-write_entries-start c).Start ++ drop head_length c.args.file.now = head_written bundle_kind (set_of c.args.p) c.args.file.now tt c.requires.passes.0 (omega (arith, long (goal.at.slice_bounds-write_entries-start c).Start)) c.write_head-answer.ensures in
     let headed_length : length c.write_head-answer.new.file ≡ length c.args.file.now = ap (λ (l : List ℕ). length l) headed ∙ length-append (head (goal.at.slice_bounds-write_entries-start c).Start) (drop head_length c.args.file.now) ∙ omega (arith, length-drop head_length c.args.file.now, long (goal.at.slice_bounds-write_entries-start c).Start) in
     let counted_length : length c.write_count.new.file ≡ length c.args.file.now = ap (λ (l : List ℕ). length l) c.write_count.ensures
@@ -63,7 +63,7 @@ slice_bounds-write_entries-start c =
 
 pub write_entries-requires : goal.write_entries-requires
 unfolding bundle_of head_bytes bytes16 arrays_of
-write_entries-requires c = 
+write_entries-requires c =
     let headed : c.write_head-answer.new.file ≡ head (goal.at.write_entries-requires c).Start ++ drop head_length c.args.file.now = head_written bundle_kind (set_of c.args.p) c.args.file.now tt c.requires.passes.0 (omega (arith, long (goal.at.write_entries-requires c).Start)) c.write_head-answer.ensures in
     let headed_length : length c.write_head-answer.new.file ≡ length c.args.file.now = ap (λ (l : List ℕ). length l) headed ∙ length-append (head (goal.at.write_entries-requires c).Start) (drop head_length c.args.file.now) ∙ omega (arith, length-drop head_length c.args.file.now, long (goal.at.write_entries-requires c).Start) in
     let counted_length : length c.write_count.new.file ≡ length c.args.file.now = ap (λ (l : List ℕ). length l) c.write_count.ensures
@@ -75,7 +75,7 @@ write_entries-requires c =
 
 pub returns : goal.returns
 unfolding bundle_of head_bytes bytes16 arrays_of
-returns c = 
+returns c =
     let headed : c.write_head-answer.new.file ≡ head (goal.at.returns c).Start ++ drop head_length c.args.file.now = head_written bundle_kind (set_of c.args.p) c.args.file.now tt c.requires.passes.0 (omega (arith, long (goal.at.returns c).Start)) c.write_head-answer.ensures in
     let counted : c.write_count.new.file ≡ (head (goal.at.returns c).Start ++ bytes16 (length c.args.stops.now)) ++ drop 18 c.args.file.now = c.write_count.ensures
     ∙ ap (λ (l : List ℕ). sets l 16 (bytes16 (length c.args.stops.now))) headed

@@ -22,7 +22,7 @@ unfolding remainder_of
 read values k e = sym (get_or-map value_of values k (record { a = pos 0; b = pos 0 })) ∙ ap (λ (l : List ℤ[ω]). get_or l k 𝟘) e
 
 pub loop-i-preserved : goal.loop-i-preserved
-loop-i-preserved c = 
+loop-i-preserved c =
     let inside : 2 * c.loop-i.i + 1 < length c.loop-i.out = omega (arith, c.loop-i-test.true, c.loop-i.invariant.1.long, c.requires) in
     let r = c.remainders-values in
     let k = get_or c.args.sums.now c.loop-i.i 0 % 4 in

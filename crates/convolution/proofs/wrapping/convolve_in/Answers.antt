@@ -23,7 +23,7 @@ reduce_wrapped-requires c = let n = c.args.n in
     let x = c.args.x.now in
     let y = c.args.y.now in
     let w = c.multiply_halved.new.w in
-    let k = c.requires.0 in record { n_bound = (k.N_small, omega (arith, c.multiply_halved.auto.1.1.1.0, c.requires.1), c.multiply_halved.auto.0 ∙ k.x_long, modulus_handed c.ranges.c c.ranges.d k.modulus); by_index = numbers_small n x y w k.N_small k.x_long k.y_long k.x_small k.y_small (formed (goal.at.reduce_wrapped-requires c).After-multiply_halved); by_index_2 = reducible n x y w k.N_small k.x_long k.y_long k.x_small k.y_small (formed (goal.at.reduce_wrapped-requires c).After-multiply_halved) }
+    let k = c.requires.0 in record { n_bound = (k.N_small, omega (arith, c.multiply_halved.auto.w, c.requires.1), c.multiply_halved.auto.x ∙ k.x_long, modulus_handed c.ranges.c c.ranges.d k.modulus); by_index = numbers_small n x y w k.N_small k.x_long k.y_long k.x_small k.y_small (formed (goal.at.reduce_wrapped-requires c).After-multiply_halved); by_index_2 = reducible n x y w k.N_small k.x_long k.y_long k.x_small k.y_small (formed (goal.at.reduce_wrapped-requires c).After-multiply_halved) }
 
 pub returns : goal.returns
 returns c = let k = c.requires.0 in

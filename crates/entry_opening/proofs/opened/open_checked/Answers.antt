@@ -15,7 +15,7 @@ pub returns-then-part-n : goal.returns-then-part-n
 returns-then-part-n c = gives_same c.args.message.now (length_refused (set_of c.args.p) c.args.f.now c.args.f2.now c.args.part.now (length c.args.message.now) c.requires c.if-part-n.true) (refl, refl)
 
 pub returns-then-n-le128 : goal.returns-then-n-le128
-returns-then-n-le128 c = 
+returns-then-n-le128 c =
     let as_array : opening_entry (set_of c.args.p) c.args.f.now c.args.f2.now c.args.part.now (length c.args.message.now) ≡ opening (set_of c.args.p) c.args.f.now c.args.f2.now (numbers_from c.args.part.now) (length c.args.message.now) = opens_as_its_array (set_of c.args.p) c.args.f.now c.args.f2.now c.args.part.now (length c.args.message.now) c.if-part-n.false in
     gives_same _ as_array c.open_few.ensures
 
@@ -23,6 +23,6 @@ pub open_many-requires : goal.open_many-requires
 open_many-requires c = ((accepted_parameters _ c.requires).N_small, c.if-part-n.false)
 
 pub returns : goal.returns
-returns c = 
+returns c =
     let as_array : opening_entry (set_of c.args.p) c.args.f.now c.args.f2.now c.args.part.now (length c.args.message.now) ≡ opening (set_of c.args.p) c.args.f.now c.args.f2.now (numbers_from c.args.part.now) (length c.args.message.now) = opens_as_its_array (set_of c.args.p) c.args.f.now c.args.f2.now c.args.part.now (length c.args.message.now) c.if-part-n.false in
     gives_same _ as_array c.open_many.ensures

@@ -24,7 +24,7 @@ opening_of s x = opening (set_of s.args.p) s.args.f.now s.args.f2.now x (length 
 
 pub returns-in-Done : goal.returns-in-Done
 unfolding opening
-returns-in-Done c = 
+returns-in-Done c =
     let array_read : List ℤ = c.read_numbers.new.numbers in
     let checks : List Check = parameter_checks (set_of c.args.p) ++ opening_checks (set_of c.args.p) c.args.f.now c.args.f2.now array_read (length c.args.message.now) in
     let value_of : List ℕ = unpacked c.args.p.n (opened (set_of c.args.p) (coefficient c.args.f.now) (coefficient c.args.f2.now) (coefficient array_read)) in
@@ -36,7 +36,7 @@ returns-in-Done c =
 
 pub returns-in-Refused : goal.returns-in-Refused
 unfolding opening
-returns-in-Refused c = 
+returns-in-Refused c =
     let array_read : List ℤ = c.read_numbers.new.numbers in
     let checks : List Check = parameter_checks (set_of c.args.p) ++ opening_checks (set_of c.args.p) c.args.f.now c.args.f2.now array_read (length c.args.message.now) in
     let value_of : List ℕ = unpacked c.args.p.n (opened (set_of c.args.p) (coefficient c.args.f.now) (coefficient c.args.f2.now) (coefficient array_read)) in

@@ -21,7 +21,7 @@ use Rattle.file_reading.proofs.contents.stored_refusal.Goals as goal
 
 pub returns-in-Refused : goal.returns-in-Refused
 unfolding array_at
-returns-in-Refused c = 
+returns-in-Refused c =
     let within : (k : ℕ) → k < c.array_count-count.result → k < length (arrays_of c.args.kind) = λ k h. omega (arith, c.array_count-count.ensures) in
     let end : (k : ℕ) → k < c.array_count-count.result → 2 * c.args.p.n * k + 2 * c.args.p.n ≤ length (numbers_from c.args.bytes.now) = λ k h. omega (arith, c.requires.1, numbers_length c.args.bytes.now, end_of_array c.args.kind c.args.p.n k (within k h)) in
     let checked : outcome (own (set_of c.args.p) (set_at (set_of c.args.p) (arrays_of c.args.kind) (numbers_from c.args.bytes.now) c.loop-k.k) (array_at (set_of c.args.p) c.loop-k.k (numbers_from c.args.bytes.now)) ∷ []) (tt {0}) ≡ answered c.stored_array_refusal.result = let x = numbers_from c.args.bytes.now in
@@ -35,7 +35,7 @@ returns-in-Refused c =
 
 pub loop-k-preserved : goal.loop-k-preserved
 unfolding array_at
-loop-k-preserved c = 
+loop-k-preserved c =
     let within : (k : ℕ) → k < c.array_count-count.result → k < length (arrays_of c.args.kind) = λ k h. omega (arith, c.array_count-count.ensures) in
     let end : (k : ℕ) → k < c.array_count-count.result → 2 * c.args.p.n * k + 2 * c.args.p.n ≤ length (numbers_from c.args.bytes.now) = λ k h. omega (arith, c.requires.1, numbers_length c.args.bytes.now, end_of_array c.args.kind c.args.p.n k (within k h)) in
     let checked : outcome (own (set_of c.args.p) (set_at (set_of c.args.p) (arrays_of c.args.kind) (numbers_from c.args.bytes.now) c.loop-k.k) (array_at (set_of c.args.p) c.loop-k.k (numbers_from c.args.bytes.now)) ∷ []) (tt {0}) ≡ answered c.stored_array_refusal.result = let x = numbers_from c.args.bytes.now in

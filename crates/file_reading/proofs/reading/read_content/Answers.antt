@@ -22,7 +22,7 @@ abbrev checks : Start → List Check
 checks s = stored_checks s.args.kind (set_of s.args.p) s.args.file.now (length s.args.numbers.now)
 
 pub slice_bounds-read_numbers-count : goal.slice_bounds-read_numbers-count
-slice_bounds-read_numbers-count c = 
+slice_bounds-read_numbers-count c =
     let refusal_is : answered c.reading_refusal.result ≡ outcome (checks (goal.at.slice_bounds-read_numbers-count c).Start) (tt {0}) = c.reading_refusal.ensures in
     let all_passed : Passes (checks (goal.at.slice_bounds-read_numbers-count c).Start) = sym refusal_is ∙ ap answered c.in-Done.is in
     let long : length c.args.file.now ≡ head_length + 2 * length c.args.numbers.now = let k = contents_passed c.args.kind (set_of c.args.p) (numbers_of c.args.file.now) (length c.args.numbers.now) (length c.args.file.now) all_passed in
@@ -30,7 +30,7 @@ slice_bounds-read_numbers-count c =
     omega (arith, long)
 
 pub slice_bounds-read_numbers-start : goal.slice_bounds-read_numbers-start
-slice_bounds-read_numbers-start c = 
+slice_bounds-read_numbers-start c =
     let refusal_is : answered c.reading_refusal.result ≡ outcome (checks (goal.at.slice_bounds-read_numbers-start c).Start) (tt {0}) = c.reading_refusal.ensures in
     let all_passed : Passes (checks (goal.at.slice_bounds-read_numbers-start c).Start) = sym refusal_is ∙ ap answered c.in-Done.is in
     let long : length c.args.file.now ≡ head_length + 2 * length c.args.numbers.now = let k = contents_passed c.args.kind (set_of c.args.p) (numbers_of c.args.file.now) (length c.args.numbers.now) (length c.args.file.now) all_passed in
@@ -38,7 +38,7 @@ slice_bounds-read_numbers-start c =
     omega (arith, long)
 
 pub returns-in-Done : goal.returns-in-Done
-returns-in-Done c = 
+returns-in-Done c =
     let refusal_is : answered c.reading_refusal.result ≡ outcome (checks (goal.at.returns-in-Done c).Start) (tt {0}) = c.reading_refusal.ensures in
     let all_passed : Passes (checks (goal.at.returns-in-Done c).Start) = sym refusal_is ∙ ap answered c.in-Done.is in
     let long : length c.args.file.now ≡ head_length + 2 * length c.args.numbers.now = let k = contents_passed c.args.kind (set_of c.args.p) (numbers_of c.args.file.now) (length c.args.numbers.now) (length c.args.file.now) all_passed in
@@ -48,6 +48,6 @@ returns-in-Done c =
     gives_same c.args.numbers.now (done_with (checks (goal.at.returns-in-Done c).Start) (numbers_of c.args.file.now) all_passed) (refl, numbers_read _ c.args.numbers.now c.read_numbers.ensures rest_long ∙ ap numbers_from (rest_taken head_length c.args.file.now))
 
 pub returns-in-Refused : goal.returns-in-Refused
-returns-in-Refused c = 
+returns-in-Refused c =
     let refusal_is : answered c.reading_refusal.result ≡ outcome (checks (goal.at.returns-in-Refused c).Start) (tt {0}) = c.reading_refusal.ensures in
     gives_same c.args.numbers.now (refused_with (checks (goal.at.returns-in-Refused c).Start) (numbers_of c.args.file.now) _ (sym refusal_is ∙ ap answered c.in-Refused.is)) (refl, refl)

@@ -26,13 +26,13 @@ pub returns-then-not-lengths_right : goal.returns-then-not-lengths_right
 returns-then-not-lengths_right c = sym (lengths_refused c.args.kind (set_of c.args.p) _ c.args.room (length c.args.file.now) _ c.lengths_right.ensures (c.if-not-lengths_right.true))
 
 pub slice_bounds-stored_refusal-count : goal.slice_bounds-stored_refusal-count
-slice_bounds-stored_refusal-count c = 
+slice_bounds-stored_refusal-count c =
     let long : length c.args.file.now ≡ head_length + 2 * file_numbers c.args.kind c.args.p.n = (lengths_are c.args.kind (set_of c.args.p) [] c.args.room (length c.args.file.now) _ c.lengths_right.ensures (c.if-not-lengths_right.false)).0
     ∙ file_bytes_lem c.args.kind c.args.p.n in
     omega (arith, long)
 
 pub slice_bounds-stored_refusal-start : goal.slice_bounds-stored_refusal-start
-slice_bounds-stored_refusal-start c = 
+slice_bounds-stored_refusal-start c =
     let long : length c.args.file.now ≡ head_length + 2 * file_numbers c.args.kind c.args.p.n = (lengths_are c.args.kind (set_of c.args.p) [] c.args.room (length c.args.file.now) _ c.lengths_right.ensures (c.if-not-lengths_right.false)).0
     ∙ file_bytes_lem c.args.kind c.args.p.n in
     omega (arith, long)
@@ -41,12 +41,12 @@ pub slice_bounds-x-end : goal.slice_bounds-x-end
 slice_bounds-x-end c = omega (arith, few (goal.at.slice_bounds-x-end c).Start, ap length c.zeros-x.ensures)
 
 pub slice_bounds-stored_refusal-end-2 : goal.slice_bounds-stored_refusal-end-2
-slice_bounds-stored_refusal-end-2 c = 
+slice_bounds-stored_refusal-end-2 c =
     let part : let n = c.args.p.n in length (take (2 * n) c.zeros-x.result) ≡ 2 * n = zeros_part c.args.p.n c.zeros-x.result (few (goal.at.slice_bounds-stored_refusal-end-2 c).Start) c.zeros-x.ensures in
     sym part
 
 pub stored_refusal-requires : goal.stored_refusal-requires
-stored_refusal-requires c = 
+stored_refusal-requires c =
     let long : length c.args.file.now ≡ head_length + 2 * file_numbers c.args.kind c.args.p.n = (lengths_are c.args.kind (set_of c.args.p) [] c.args.room (length c.args.file.now) _ c.lengths_right.ensures (c.if-not-lengths_right.false)).0
     ∙ file_bytes_lem c.args.kind c.args.p.n in
     let part : let n = c.args.p.n in length (take (2 * n) c.zeros-x.result) ≡ 2 * n = zeros_part c.args.p.n c.zeros-x.result (few (goal.at.stored_refusal-requires c).Start) c.zeros-x.ensures in

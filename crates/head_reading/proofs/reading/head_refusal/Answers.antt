@@ -42,14 +42,14 @@ returns-then-file-lt-HEAD_BYTES c = sym (refused_by 16 (from_17 (goal.at.returns
 
 pub returns-then-not-marked_eiz : goal.returns-then-not-marked_eiz
 unfolding head_checks
-returns-then-not-marked_eiz c = 
+returns-then-not-marked_eiz c =
     let tested_17 : test_17 (goal.at.returns-then-not-marked_eiz c).Start ≡ c.marked_eiz.result = sym c.marked_eiz.ensures in
     let after_16 : outcome (from_16 (goal.at.returns-then-not-marked_eiz c).Start) (tt {0}) ≡ outcome (from_17 (goal.at.returns-then-not-marked_eiz c).Start) (tt {0}) = passed 16 (from_17 (goal.at.returns-then-not-marked_eiz c).Start) tt (le-ltb (length c.args.file.now) head_length c.if-file-lt-HEAD_BYTES.false) in
     sym (after_16 ∙ fails_refused 17 (test_17 (goal.at.returns-then-not-marked_eiz c).Start) (from_18 (goal.at.returns-then-not-marked_eiz c).Start) tt (tested_17 ∙ c.if-not-marked_eiz.true))
 
 pub returns-then-not-version_one : goal.returns-then-not-version_one
 unfolding head_checks
-returns-then-not-version_one c = 
+returns-then-not-version_one c =
     let tested_18 : test_18 (goal.at.returns-then-not-version_one c).Start ≡ c.version_one.result = sym c.version_one.ensures in
     let tested_17 : test_17 (goal.at.returns-then-not-version_one c).Start ≡ c.marked_eiz.result = sym c.marked_eiz.ensures in
     let after_16 : outcome (from_16 (goal.at.returns-then-not-version_one c).Start) (tt {0}) ≡ outcome (from_17 (goal.at.returns-then-not-version_one c).Start) (tt {0}) = passed 16 (from_17 (goal.at.returns-then-not-version_one c).Start) tt (le-ltb (length c.args.file.now) head_length c.if-file-lt-HEAD_BYTES.false) in
@@ -58,7 +58,7 @@ returns-then-not-version_one c =
 
 pub returns-then-not-kind_wanted : goal.returns-then-not-kind_wanted
 unfolding head_checks
-returns-then-not-kind_wanted c = 
+returns-then-not-kind_wanted c =
     let tested_19 : test_19 (goal.at.returns-then-not-kind_wanted c).Start ≡ c.kind_wanted.result = sym c.kind_wanted.ensures in
     let tested_18 : test_18 (goal.at.returns-then-not-kind_wanted c).Start ≡ c.version_one.result = sym c.version_one.ensures in
     let tested_17 : test_17 (goal.at.returns-then-not-kind_wanted c).Start ≡ c.marked_eiz.result = sym c.marked_eiz.ensures in
@@ -69,7 +69,7 @@ returns-then-not-kind_wanted c =
 
 pub returns : goal.returns
 unfolding head_checks
-returns c = 
+returns c =
     let tested_19 : test_19 (goal.at.returns c).Start ≡ c.kind_wanted.result = sym c.kind_wanted.ensures in
     let tested_18 : test_18 (goal.at.returns c).Start ≡ c.version_one.result = sym c.version_one.ensures in
     let tested_17 : test_17 (goal.at.returns c).Start ≡ c.marked_eiz.result = sym c.marked_eiz.ensures in

@@ -30,7 +30,7 @@ returns-then-not-known_kind c = sym (call_refused 19 (from_parameters (goal.at.r
 
 pub returns-then-room-lt-HEAD_BYTES : goal.returns-then-room-lt-HEAD_BYTES
 unfolding head_writing_checks
-returns-then-room-lt-HEAD_BYTES c = 
+returns-then-room-lt-HEAD_BYTES c =
     let check_is : answered c.check.result ≡ outcome (parameter_checks (P (goal.at.returns-then-room-lt-HEAD_BYTES c).Start)) (tt {0}) = c.check.ensures in
     let after_19 : outcome (19 if not (known_kind c.args.kind) ∷ from_parameters (goal.at.returns-then-room-lt-HEAD_BYTES c).Start) (tt {0}) ≡ outcome (from_parameters (goal.at.returns-then-room-lt-HEAD_BYTES c).Start) (tt {0}) = call_passed 19 (from_parameters (goal.at.returns-then-room-lt-HEAD_BYTES c).Start) tt c.known_kind.ensures (ap not c.if-not-known_kind.false) in
     let after_parameters : outcome (19 if not (known_kind c.args.kind) ∷ from_parameters (goal.at.returns-then-room-lt-HEAD_BYTES c).Start) (tt {0}) ≡ outcome (room (goal.at.returns-then-room-lt-HEAD_BYTES c).Start) (tt {0}) = after_19 ∙ passed_all (parameter_checks (P (goal.at.returns-then-room-lt-HEAD_BYTES c).Start)) (room (goal.at.returns-then-room-lt-HEAD_BYTES c).Start) tt (sym check_is ∙ ap answered c.in-Done.is) in
@@ -38,7 +38,7 @@ returns-then-room-lt-HEAD_BYTES c =
 
 pub returns-else-room-lt-HEAD_BYTES : goal.returns-else-room-lt-HEAD_BYTES
 unfolding head_writing_checks
-returns-else-room-lt-HEAD_BYTES c = 
+returns-else-room-lt-HEAD_BYTES c =
     let check_is : answered c.check.result ≡ outcome (parameter_checks (P (goal.at.returns-else-room-lt-HEAD_BYTES c).Start)) (tt {0}) = c.check.ensures in
     let after_19 : outcome (19 if not (known_kind c.args.kind) ∷ from_parameters (goal.at.returns-else-room-lt-HEAD_BYTES c).Start) (tt {0}) ≡ outcome (from_parameters (goal.at.returns-else-room-lt-HEAD_BYTES c).Start) (tt {0}) = call_passed 19 (from_parameters (goal.at.returns-else-room-lt-HEAD_BYTES c).Start) tt c.known_kind.ensures (ap not c.if-not-known_kind.false) in
     let after_parameters : outcome (19 if not (known_kind c.args.kind) ∷ from_parameters (goal.at.returns-else-room-lt-HEAD_BYTES c).Start) (tt {0}) ≡ outcome (room (goal.at.returns-else-room-lt-HEAD_BYTES c).Start) (tt {0}) = after_19 ∙ passed_all (parameter_checks (P (goal.at.returns-else-room-lt-HEAD_BYTES c).Start)) (room (goal.at.returns-else-room-lt-HEAD_BYTES c).Start) tt (sym check_is ∙ ap answered c.in-Done.is) in
@@ -46,7 +46,7 @@ returns-else-room-lt-HEAD_BYTES c =
 
 pub returns-in-Refused : goal.returns-in-Refused
 unfolding head_writing_checks
-returns-in-Refused c = 
+returns-in-Refused c =
     let check_is : answered c.check.result ≡ outcome (parameter_checks (P (goal.at.returns-in-Refused c).Start)) (tt {0}) = c.check.ensures in
     let after_19 : outcome (19 if not (known_kind c.args.kind) ∷ from_parameters (goal.at.returns-in-Refused c).Start) (tt {0}) ≡ outcome (from_parameters (goal.at.returns-in-Refused c).Start) (tt {0}) = call_passed 19 (from_parameters (goal.at.returns-in-Refused c).Start) tt c.known_kind.ensures (ap not c.if-not-known_kind.false) in
     sym (after_19 ∙ refused_first (parameter_checks (P (goal.at.returns-in-Refused c).Start)) (room (goal.at.returns-in-Refused c).Start) tt _ (sym check_is ∙ ap answered c.in-Refused.is))

@@ -16,7 +16,7 @@ past_end l k h = ap₂ (λ (high low : ℕ). 256 * high + low) (get_or-eq_defaul
 
 pub returns-then-k-file : goal.returns-then-k-file
 unfolding unsigned_at number16
-returns-then-k-file c = 
+returns-then-k-file c =
     let file : List ℕ = c.args.file.now in
     let k : ℕ = c.args.k in
     let high_small : get_or file k 0 < 256 = (c.shared_slice_known-then-k-file-1.given k).fits in

@@ -24,7 +24,7 @@ apart : (s : Start) → outcome (first s ++ last s) (tt {0}) ≡ outcome (parame
 apart s = key_checks_apart (P s) s.args.f.now s.args.f2.now s.args.fq.now s.args.g.now s.args.room
 
 pub inverse_refusal-requires : goal.inverse_refusal-requires
-inverse_refusal-requires c = 
+inverse_refusal-requires c =
     let first_passed : Passes (first (goal.at.inverse_refusal-requires c).Start) = sym c.key_array_refusal.ensures ∙ ap answered c.in-Done.is in
     let k = key_arrays_passed (P (goal.at.inverse_refusal-requires c).Start) c.args.f.now c.args.f2.now c.args.fq.now c.args.g.now c.args.room first_passed in
     record {
@@ -38,7 +38,7 @@ inverse_refusal-requires c =
     }
 
 pub returns-in-Done : goal.returns-in-Done
-returns-in-Done c = 
+returns-in-Done c =
     let first_passed : Passes (first (goal.at.returns-in-Done c).Start) = sym c.key_array_refusal.ensures ∙ ap answered c.in-Done.is in
     c.inverse_refusal.ensures ∙ sym (passed_all (first (goal.at.returns-in-Done c).Start) (last (goal.at.returns-in-Done c).Start) tt first_passed) ∙ apart (goal.at.returns-in-Done c).Start
 

@@ -56,14 +56,14 @@ abbrev start_q : After-multiply_units_modulo_q → Start
 start_q c = start c.before.before.before.before.before
 
 pub returns-then-not-is_one : goal.returns-then-not-is_one
-returns-then-not-is_one c = 
+returns-then-not-is_one c =
     let modulo_2_is : c.multiply_units_modulo_2.new.out ≡ array (P (goal.at.returns-then-not-is_one c).Start).N (λ i. mod2 (by_F2 (goal.at.returns-then-not-is_one c).Start i)) = let s = start (goal.at.returns-then-not-is_one c).After-multiply_units_modulo_2 in
     product-formed (P s) (accepted s) s.args.product.now (f_units s) (F2_ready s) s.requires.1 _ c.multiply_units_modulo_2.ensures in
     let tested_13 : c.is_one.result ≡ test_13 (goal.at.returns-then-not-is_one c).Start = c.is_one.ensures ∙ is_one_modulo_2 (P (goal.at.returns-then-not-is_one c).Start).N (by_F2 (goal.at.returns-then-not-is_one c).Start) _ modulo_2_is in
     sym (call_refused 13 _ tt tested_13 (ap not c.if-not-is_one.true))
 
 pub returns-then-not-is_one-2 : goal.returns-then-not-is_one-2
-returns-then-not-is_one-2 c = 
+returns-then-not-is_one-2 c =
     let modulo_2_is : c.multiply_units_modulo_2.new.out ≡ array (P (goal.at.returns-then-not-is_one-2 c).Start).N (λ i. mod2 (by_F2 (goal.at.returns-then-not-is_one-2 c).Start i)) = let s = start (goal.at.returns-then-not-is_one-2 c).After-multiply_units_modulo_2 in
     product-formed (P s) (accepted s) s.args.product.now (f_units s) (F2_ready s) s.requires.1 _ c.multiply_units_modulo_2.ensures in
     let modulo_q_is : c.multiply_units_modulo_q.new.out ≡ array (P (start_q (goal.at.returns-then-not-is_one-2 c).After-multiply_units_modulo_q)).N (λ i. mod_q (P (start_q (goal.at.returns-then-not-is_one-2 c).After-multiply_units_modulo_q)).q (by_Fq (start_q (goal.at.returns-then-not-is_one-2 c).After-multiply_units_modulo_q) i)) = let s = start_q (goal.at.returns-then-not-is_one-2 c).After-multiply_units_modulo_q in
@@ -74,7 +74,7 @@ returns-then-not-is_one-2 c =
     sym (after_13 ∙ call_refused 14 _ tt tested_14 (ap not c.if-not-is_one-2.true))
 
 pub returns : goal.returns
-returns c = 
+returns c =
     let modulo_2_is : c.multiply_units_modulo_2.new.out ≡ array (P (goal.at.returns c).Start).N (λ i. mod2 (by_F2 (goal.at.returns c).Start i)) = let s = start (goal.at.returns c).After-multiply_units_modulo_2 in
     product-formed (P s) (accepted s) s.args.product.now (f_units s) (F2_ready s) s.requires.1 _ c.multiply_units_modulo_2.ensures in
     let modulo_q_is : c.multiply_units_modulo_q.new.out ≡ array (P (start_q (goal.at.returns c).After-multiply_units_modulo_q)).N (λ i. mod_q (P (start_q (goal.at.returns c).After-multiply_units_modulo_q)).q (by_Fq (start_q (goal.at.returns c).After-multiply_units_modulo_q) i)) = let s = start_q (goal.at.returns c).After-multiply_units_modulo_q in

@@ -10,7 +10,7 @@ use Rattle.opened_files.proofs.InputParts.{first_head, input_parted}
 use Rattle.opened_files.proofs.private_files.open_private.Goals as goal
 
 pub open_private_in-requires : goal.open_private_in-requires
-open_private_in-requires c = 
+open_private_in-requires c =
     let all : length (take 8192 c.four_arrays-numbers.result) ≡ 8192 = length-take-le 8192 c.four_arrays-numbers.result (omega (arith, ap length c.four_arrays-numbers.ensures)) in
     let e = c.first_end-end in
     (first_head c.args.input.now (set_of c.args.p) e.result c.requires e.ensures, all)

@@ -25,17 +25,17 @@ after_private p first second numbers r =
     rw (← r.numbers_are, ← r.head) (sym (passed_all (file_checks 2 first) _ _ r.checks))
 
 pub slice_bounds-read-end : goal.slice_bounds-read-end
-slice_bounds-read-end c = 
+slice_bounds-read-end c =
     let within : c.file_numbers-k.result ≤ length c.args.numbers.now = omega (arith, c.file_numbers-k.ensures, numbers_few 2 c.args.p.n (N_small 2 c.args.first.now (set_of c.args.p) c.requires.0)) in
     within
 
 pub slice_bounds-read-end-2 : goal.slice_bounds-read-end-2
-slice_bounds-read-end-2 c = 
+slice_bounds-read-end-2 c =
     let within : c.file_numbers-k.result ≤ length c.args.numbers.now = omega (arith, c.file_numbers-k.ensures, numbers_few 2 c.args.p.n (N_small 2 c.args.first.now (set_of c.args.p) c.requires.0)) in
     sym (length-take-le _ c.args.numbers.now within)
 
 pub open_sealed-requires : goal.open_sealed-requires
-open_sealed-requires c = 
+open_sealed-requires c =
     let within : c.file_numbers-k.result ≤ length c.args.numbers.now = omega (arith, c.file_numbers-k.ensures, numbers_few 2 c.args.p.n (N_small 2 c.args.first.now (set_of c.args.p) c.requires.0)) in
     let front : List ℤ = take c.file_numbers-k.result c.args.numbers.now in
     let private_read : Read 2 (set_of c.args.p) c.args.first.now c.read.new.numbers = file_read 2 c.args.first.now (set_of c.args.p) c.requires.0 front _ c.read.ensures.0 _ c.in-Done.is c.read.ensures.1 in
@@ -49,7 +49,7 @@ open_sealed-requires c =
     )
 
 pub returns-in-Done : goal.returns-in-Done
-returns-in-Done c = 
+returns-in-Done c =
     let front : List ℤ = take c.file_numbers-k.result c.args.numbers.now in
     let private_read : Read 2 (set_of c.args.p) c.args.first.now c.read.new.numbers = file_read 2 c.args.first.now (set_of c.args.p) c.requires.0 front _ c.read.ensures.0 _ c.in-Done.is c.read.ensures.1 in
     let new : List ℤ = c.read.new.numbers in
@@ -63,7 +63,7 @@ returns-in-Done c =
     c.open_sealed.ensures
 
 pub returns-in-Refused : goal.returns-in-Refused
-returns-in-Refused c = 
+returns-in-Refused c =
     let front : List ℤ = take c.file_numbers-k.result c.args.numbers.now in
     let within : c.file_numbers-k.result ≤ length c.args.numbers.now = omega (arith, c.file_numbers-k.ensures, numbers_few 2 c.args.p.n (N_small 2 c.args.first.now (set_of c.args.p) c.requires.0)) in
     let room : length front ≡ file_numbers 2 c.args.p.n = length-take-le _ c.args.numbers.now within ∙ c.file_numbers-k.ensures in

@@ -18,7 +18,7 @@ use Rattle.opened_files.proofs.ReadKeys.{key_answered}
 use Rattle.opened_files.proofs.sealed_files.open_sealed.Goals as goal
 
 pub open_sealed_in-requires : goal.open_sealed_in-requires
-open_sealed_in-requires c = 
+open_sealed_in-requires c =
     let key_read : KeyRead (set_of c.args.p) (take c.file_numbers-k.result c.args.numbers.now) = subst (λ (k : ℕ). KeyRead (set_of c.args.p) (take k c.args.numbers.now)) (sym c.file_numbers-k.ensures) c.requires.0 in
     record { key_read = c.requires; key_value = key_answered (set_of c.args.p) (take c.file_numbers-k.result c.args.numbers.now) key_read c.key_refusal-key.result c.key_refusal-key.ensures ∙ ap (λ (n : ℕ). outcome (inverse_checks (set_of c.args.p) (take n c.args.numbers.now)) (tt {0})) c.file_numbers-k.ensures; file_value = sym c.read_head.ensures ∙ ap made c.in-Accepted.is }
 

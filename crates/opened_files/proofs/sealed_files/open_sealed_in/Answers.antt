@@ -42,14 +42,14 @@ after_sealed p numbers sealed file e r =
     rw (← r.numbers_are, ← r.head) (sym (passed_all (file_checks 3 file) _ _ r.checks))
 
 pub read_sealed-requires : goal.read_sealed-requires
-read_sealed-requires c = 
+read_sealed-requires c =
     let P : ParameterSet = set_of c.args.p in
     let few : c.args.p.n ≤ 1024 = (accepted_parameters P c.requires.key_read.0.accepted).N_small in
     let few_sealed : c.args.sealed.n ≤ 1024 = N_small 3 c.args.file.now (set_of c.args.sealed) c.requires.file_value in
     (few, few_sealed, c.requires.key_read.1)
 
 pub returns-in-Done : goal.returns-in-Done
-returns-in-Done c = 
+returns-in-Done c =
     let P : ParameterSet = set_of c.args.p in
     let held : List ℤ = c.read_sealed.new.numbers in
     let from : ℕ = 4 * c.args.p.n in
@@ -74,7 +74,7 @@ returns-in-Done c =
 
 pub returns-in-Refused : goal.returns-in-Refused
 unfolding file_numbers arrays_of
-returns-in-Refused c = 
+returns-in-Refused c =
     let from : ℕ = 4 * c.args.p.n in
     let count : ℕ = 2 * c.args.sealed.n in
     let part : List ℤ = take count (drop from c.args.numbers.now) in

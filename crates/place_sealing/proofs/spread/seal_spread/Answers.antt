@@ -17,11 +17,11 @@ pub slice_bounds-phi-end : goal.slice_bounds-phi-end
 slice_bounds-phi-end c = omega (arith, ap length c.zeros-phi.ensures, small (goal.at.slice_bounds-phi-end c).Start)
 
 pub slice_bounds-seal_with-end : goal.slice_bounds-seal_with-end
-slice_bounds-seal_with-end c = 
+slice_bounds-seal_with-end c =
     let part : let n = c.args.p.n in length (take (2 * n) c.zeros-phi.result) ≡ 2 * n = zeros_part _ c.zeros-phi.result (small (goal.at.slice_bounds-seal_with-end c).Start) c.zeros-phi.ensures in
     sym part
 
 pub seal_with-requires : goal.seal_with-requires
-seal_with-requires c = 
+seal_with-requires c =
     let part : let n = c.args.p.n in length (take (2 * n) c.zeros-phi.result) ≡ 2 * n = zeros_part _ c.zeros-phi.result (small (goal.at.seal_with-requires c).Start) c.zeros-phi.ensures in
     record { passes = c.requires.passes; message_len = (c.requires.message_len.0, c.requires.message_len.1, c.requires.message_len.2, c.requires.message_len.3, c.requires.message_len.4, part) }

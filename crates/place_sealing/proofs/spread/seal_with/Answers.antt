@@ -62,13 +62,13 @@ as_list : (s : Start) → numbers_sealing (set_of s.args.p) s.args.h.now s.args.
 as_list s = sealing_there (set_of s.args.p) s.args.numbers.now s.args.count s.requires.message_len.4 s.args.h.now s.args.message.now (length s.args.e.now)
 
 pub returns-in-Done : goal.returns-in-Done
-returns-in-Done c = 
+returns-in-Done c =
     let spread_list : Gives (spreading (set_of c.args.p) (places (goal.at.returns-in-Done c).Start) (length c.args.phi.now)) (number (answered c.spread_numbers.result)) c.args.phi.now c.spread_numbers.new.phi = gives_same c.args.phi.now (sym (spreading_there (set_of c.args.p) c.args.numbers.now c.args.count c.requires.message_len.4 (length c.args.phi.now))) c.spread_numbers.ensures in
     let none = ap (λ (a : Answer). number (answered a)) (sym c.in-Done.is) ∙ spread_list.0 in
     gives_same c.args.e.now (as_list (goal.at.returns-in-Done c).Start ∙ sealed_so (set_of c.args.p) (places (goal.at.returns-in-Done c).Start) (length c.args.phi.now) c.args.phi.now _ (none, spread_list.1) c.args.h.now c.args.message.now (length c.args.e.now)) c.seal.ensures
 
 pub returns-in-Refused : goal.returns-in-Refused
-returns-in-Refused c = 
+returns-in-Refused c =
     let spread_list : Gives (spreading (set_of c.args.p) (places (goal.at.returns-in-Refused c).Start) (length c.args.phi.now)) (number (answered c.spread_numbers.result)) c.args.phi.now c.spread_numbers.new.phi = gives_same c.args.phi.now (sym (spreading_there (set_of c.args.p) c.args.numbers.now c.args.count c.requires.message_len.4 (length c.args.phi.now))) c.spread_numbers.ensures in
     let refusal = c.in-Refused.refusal in
     let refused-list = answer_refused _ c.spread_numbers.result refusal spread_list.0 c.in-Refused.is in

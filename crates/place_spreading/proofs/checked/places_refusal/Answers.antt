@@ -37,17 +37,17 @@ pub returns-then-any_out_of_range : goal.returns-then-any_out_of_range
 returns-then-any_out_of_range c = sym (refused_by 23 _ _ (sym c.any_out_of_range.ensures ∙ c.if-any_out_of_range.true))
 
 pub lay-requires : goal.lay-requires
-lay-requires c = 
+lay-requires c =
     let in_range_lem : any_out_of_range c.args.p.n (places (goal.at.lay-requires c).Start) ≡ false = sym c.any_out_of_range.ensures ∙ c.if-any_out_of_range.false in
     record { count_bound = (few (goal.at.lay-requires c).Start, in_range_lem); x_len = c.requires.x_len }
 
 pub returns-then-not-lay : goal.returns-then-not-lay
-returns-then-not-lay c = 
+returns-then-not-lay c =
     let in_range_lem : any_out_of_range c.args.p.n (places (goal.at.returns-then-not-lay c).Start) ≡ false = sym c.any_out_of_range.ensures ∙ c.if-any_out_of_range.false in
     sym (passed 23 _ _ in_range_lem ∙ refused_by 24 _ _ (not-false _ (sym c.lay.ensures.value ∙ c.if-not-lay.true)))
 
 pub returns : goal.returns
-returns c = 
+returns c =
     let in_range_lem : any_out_of_range c.args.p.n (places (goal.at.returns c).Start) ≡ false = sym c.any_out_of_range.ensures ∙ c.if-any_out_of_range.false in
     let p = set_of c.args.p in
     let once = not-true _ (sym c.lay.ensures.value ∙ c.if-not-lay.false) in

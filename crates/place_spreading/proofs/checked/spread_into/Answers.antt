@@ -47,22 +47,22 @@ pub slice_bounds-x-end : goal.slice_bounds-x-end
 slice_bounds-x-end c = omega (arith, ap length c.zeros-x.ensures, (small (goal.at.slice_bounds-x-end c).Start).0)
 
 pub slice_bounds-places_refusal-end : goal.slice_bounds-places_refusal-end
-slice_bounds-places_refusal-end c = 
+slice_bounds-places_refusal-end c =
     let part : let n = c.args.p.n in length (take (2 * n) c.zeros-x.result) ≡ 2 * n = zeros_part _ c.zeros-x.result (small (goal.at.slice_bounds-places_refusal-end c).Start).0 c.zeros-x.ensures in
     sym part
 
 pub places_refusal-requires : goal.places_refusal-requires
-places_refusal-requires c = 
+places_refusal-requires c =
     let part : let n = c.args.p.n in length (take (2 * n) c.zeros-x.result) ≡ 2 * n = zeros_part _ c.zeros-x.result (small (goal.at.places_refusal-requires c).Start).0 c.zeros-x.ensures in
     record { passes = (c.requires.0, c.requires.1); x_len = (part, part_zeros (2 * c.args.p.n) c.zeros-x.result c.zeros-x.ensures) }
 
 pub lay-requires : goal.lay-requires
-lay-requires c = 
+lay-requires c =
     let all_passed : Passes (checks (goal.at.lay-requires c).Start) = sym c.places_refusal.ensures ∙ ap answered c.in-Done.is in
     record { count_bound = ((small (goal.at.lay-requires c).Start).1, in_range_lem (goal.at.lay-requires c).Start all_passed); x_len = (c.clear.ensures.0 ∙ c.requires.2, c.clear.ensures.1) }
 
 pub returns-in-Done : goal.returns-in-Done
-returns-in-Done c = 
+returns-in-Done c =
     let all_passed : Passes (checks (goal.at.returns-in-Done c).Start) = sym c.places_refusal.ensures ∙ ap answered c.in-Done.is in
     let passes = all_passed in
     gives_done (checks (goal.at.returns-in-Done c).Start) (value_of (goal.at.returns-in-Done c).Start) c.args.phi.now _ passes (c.lay.ensures.x_after (c.lay.ensures.value ∙ ap not (once (goal.at.returns-in-Done c).Start passes)))

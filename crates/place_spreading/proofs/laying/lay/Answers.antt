@@ -19,7 +19,7 @@ loop-i-init c = laid_none c.args.numbers.now c.args.count c.args.n c.args.x.now 
 
 pub put-requires : goal.put-requires
 unfolding record_at
-put-requires c = 
+put-requires c =
     let numbers : List ℕ = c.args.numbers.now in
     let count : ℕ = c.args.count in
     let N : ℕ = c.args.n in
@@ -34,7 +34,7 @@ put-requires c =
 
 pub returns-then-not-put : goal.returns-then-not-put
 unfolding record_at
-returns-then-not-put c = 
+returns-then-not-put c =
     let numbers : List ℕ = c.args.numbers.now in
     let count : ℕ = c.args.count in
     let N : ℕ = c.args.n in
@@ -48,7 +48,7 @@ returns-then-not-put c =
 
 pub loop-i-preserved : goal.loop-i-preserved
 unfolding record_at
-loop-i-preserved c = 
+loop-i-preserved c =
     let numbers : List ℕ = c.args.numbers.now in
     let count : ℕ = c.args.count in
     let N : ℕ = c.args.n in

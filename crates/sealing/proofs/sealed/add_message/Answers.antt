@@ -17,7 +17,7 @@ use Rattle.packing.specs.Messages.{packed}
 use Rattle.sealing.proofs.sealed.add_message.Goals as goal
 
 pub loop-i-preserved : goal.loop-i-preserved
-loop-i-preserved c = 
+loop-i-preserved c =
     let inside : 2 * c.loop-i.i + 1 < length c.loop-i.e = omega (arith, c.loop-i-test.true, c.loop-i.invariant.1.long, c.requires.1) in
     let r = c.sealed_at-r in
     let as-came = c.loop-i.invariant.1.old c.loop-i.i (omega arith) in

@@ -36,14 +36,14 @@ ready s = sealing_passed (P s) s.args.h.now s.args.phi.now s.args.message.now (l
 
 pub add_message-requires : goal.add_message-requires
 unfolding sealed
-add_message-requires c = 
+add_message-requires c =
     let product_is : c.multiply_units.new.out ≡ array c.args.p.n (product (goal.at.add_message-requires c).Start) = let k = ready (goal.at.add_message-requires c).Start in
     product-formed (P (goal.at.add_message-requires c).Start) k.accepted c.args.e.now k.φ_units k.h_ready k.room_is (array c.args.p.n (product (goal.at.add_message-requires c).Start)) c.multiply_units.ensures in
     ((ready (goal.at.add_message-requires c).Start).accepted.checks, ap length product_is ∙ array_length c.args.p.n (product (goal.at.add_message-requires c).Start))
 
 pub returns : goal.returns
 unfolding sealed
-returns c = 
+returns c =
     let product_is : c.multiply_units.new.out ≡ array c.args.p.n (product (goal.at.returns c).Start) = let k = ready (goal.at.returns c).Start in
     product-formed (P (goal.at.returns c).Start) k.accepted c.args.e.now k.φ_units k.h_ready k.room_is (array c.args.p.n (product (goal.at.returns c).Start)) c.multiply_units.ensures in
     c.add_message.ensures

@@ -36,7 +36,7 @@ part = twice ⊕ var 1
 
 pub returns : goal.returns
 unfolding ◌+ω◌ coefficient
-returns c = 
+returns c =
     let modulus_read : let p = c.args.p in value (to_z w32 (of_z w32 p.c)) (to_z w32 (of_z w32 p.d)) ≡ (set_of p).q = pair_read {w = w32} (search rules) (search rules) in
     let a_fits : SFits w32 c.pair_of-m.result.a = search rules in
     let ρ_a : List Leaf = let p = c.at-pa in given p.result (2 ^ 31) p.ensures.1 ∷ cast c.pair_of-m.result.a a_fits ∷ [] in

@@ -18,6 +18,6 @@ loop-i-preserved c = let before = c.loop-i.invariant in
     let taken = c.loop-i-test.true in
     let e = sym c.nonzero_at.ensures in
     elim c.if-nonzero_at.branch [
-      then-nonzero_at w ↦ counted_passed before taken (e ∙ w.if-nonzero_at.true) w.k-is
+      | then-nonzero_at w ↦ counted_passed before taken (e ∙ w.if-nonzero_at.true) w.k-is
       | else-nonzero_at w ↦ counted_failed before taken (e ∙ w.if-nonzero_at.false) w.k-is
     ]

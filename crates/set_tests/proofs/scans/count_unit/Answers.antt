@@ -22,7 +22,7 @@ loop-i-preserved c =
     let taken = c.loop-i-test.true in
     let e = sym c.equal_at.ensures in
     elim c.if-equal_at.branch [
-      then-equal_at w ↦ counted_passed before taken (e ∙ w.if-equal_at.true) w.found-is
+      | then-equal_at w ↦ counted_passed before taken (e ∙ w.if-equal_at.true) w.found-is
       | else-equal_at w ↦ counted_failed before taken (e ∙ w.if-equal_at.false) w.found-is
     ]
 
@@ -31,6 +31,6 @@ unfolding unit_count
 returns c =
     -- the pair that is looked for is unit k
     let is_unit : value (to_z w32 (of_z w32 c.unit-u.result.a)) (to_z w32 (of_z w32 c.unit-u.result.b)) ≡ unit c.args.k =
-      pair_read {w = w32} (search rules) (search rules) ∙ c.unit-u.ensures ∙ ap unit (mod-eq_of_lt {n = c.args.k} {m = 6} c.requires.2) in
+    pair_read {w = w32} (search rules) (search rules) ∙ c.unit-u.ensures ∙ ap unit (mod-eq_of_lt {n = c.args.k} {m = 6} c.requires.2) in
     counted_all c.loop-i.invariant (omega (arith, c.loop-i-test.false))
     ∙ ap (λ (y : ℤ[ω]). count c.args.n (λ i. same (coefficient c.args.x.now i) y)) is_unit

@@ -23,13 +23,13 @@ unfolding not_short short_of
 read_by n bits o e = ap (read_at bits) (sym e)
 
 pub read_before-requires : goal.read_before-requires
-read_before-requires c = 
+read_before-requires c =
     let found : last_one (2 * c.args.n) (bit_of c.args.bits.now) ≡ At c.in-At.k = sym c.last_one.ensures ∙ c.in-At.is in
     let inside = (last_known (bit_of c.args.bits.now) (2 * c.args.n) c.in-At.k found).inside in
     (omega (arith, inside, c.requires.0), omega (arith, inside, c.requires.1))
 
 pub returns-in-At : goal.returns-in-At
-returns-in-At c = 
+returns-in-At c =
     let found : last_one (2 * c.args.n) (bit_of c.args.bits.now) ≡ At c.in-At.k = sym c.last_one.ensures ∙ c.in-At.is in
     gives_as (read_by c.args.n c.args.bits.now (At c.in-At.k) found) c.read_before.ensures
 

@@ -19,9 +19,9 @@ all_filled bytes numbers₀ numbers k n l f =
 
 pub loop-k-preserved : goal.loop-k-preserved
 loop-k-preserved c = let h = c.loop-k-test.true in (
-      omega (arith, h, c.loop-k.invariant.1.long),
-      set_next (pos 0) c.loop-k.invariant.1 h (read_32 c.signed-z.result c.signed-z.ensures.1 ∙ c.signed-z.ensures.0 ∙ sym (numbers_at c.args.bytes.now c.loop-k.k (omega (arith, h, c.loop-k.invariant.1.long)))),
-    )
+  omega (arith, h, c.loop-k.invariant.1.long),
+  set_next (pos 0) c.loop-k.invariant.1 h (read_32 c.signed-z.result c.signed-z.ensures.1 ∙ c.signed-z.ensures.0 ∙ sym (numbers_at c.args.bytes.now c.loop-k.k (omega (arith, h, c.loop-k.invariant.1.long)))),
+)
 
 pub returns : goal.returns
 returns c = all_filled c.args.bytes.now c.args.numbers.now c.loop-k.numbers c.loop-k.k c.requires (omega (arith, c.loop-k-test.false, c.loop-k.invariant.1.long)) c.loop-k.invariant.1

@@ -48,12 +48,11 @@ loop-i-init c = (omega arith, refl)
 
 pub loop-i-preserved : goal.loop-i-preserved
 unfolding bytes_of
-loop-i-preserved c = 
+loop-i-preserved c =
     let element : ℤ = get_or c.args.numbers.now c.loop-i.i (pos 0) in
     let small : nat_abs element ≤ 5461 = c.requires.1 c.loop-i.i in
     let wide : to_z w32 (of_z w32 element) ≡ element = read_32 element (le_trans small (lit≤ tt)) in
-    let element_read : to_z w16 (of_z w16 (to_z w32 (of_z w32 element))) ≡ element = ap (λ (z : ℤ). to_z w16 (of_z w16 z)) wide ∙ to_z-of_z (fits_small element small) in
-    (
+    let element_read : to_z w16 (of_z w16 (to_z w32 (of_z w32 element))) ≡ element = ap (λ (z : ℤ). to_z w16 (of_z w16 z)) wide ∙ to_z-of_z (fits_small element small) in (
       omega (arith, c.loop-i-test.true),
       turn _ _ _ _ _ c.loop-i-test.true c.loop-i.invariant.1 (c.bits_of-bits.ensures.0 ∙ ap bits16 element_read),
     )

@@ -23,7 +23,7 @@ pub loop-j-init : goal.loop-j-init
 loop-j-init c = (omega arith, omega arith, refl, places_none (unit (goal.at.loop-j-init c).Start) (coefficient c.args.x.now) c.args.places.now)
 
 pub loop-j-preserved : goal.loop-j-preserved
-loop-j-preserved c = 
+loop-j-preserved c =
     let listed : List ℕ = set c.loop-j.places c.loop-j.count c.loop-j.j in
     let room : c.loop-j.count < length c.loop-j.places = omega (arith, c.loop-j-test.true, c.loop-j.invariant.1, c.loop-j.invariant.2, c.requires) in
     let x = coefficient c.args.x.now in
@@ -32,6 +32,6 @@ loop-j-preserved c =
     let kept = places_kept (unit (goal.at.loop-j-preserved c).Start) x c.loop-j.places c.loop-j.j c.loop-j.invariant.3 in
     let long = length-set c.loop-j.places c.loop-j.count c.loop-j.j ∙ c.loop-j.invariant.2 in
     elim c.if-coefficient_is.branch [
-      then-coefficient_is w ↦ (omega (arith, taken), omega (arith, w.count-is, c.loop-j.invariant.1), long, subst (Places (c.loop-j.j + 1) (unit (goal.at.loop-j-preserved c).Start) x listed) (sym w.count-is) (places_more (unit (goal.at.loop-j-preserved c).Start) x listed kept (get_or-set_same c.loop-j.places c.loop-j.count c.loop-j.j 0 room) (e ∙ w.if-coefficient_is.true)))
+      | then-coefficient_is w ↦ (omega (arith, taken), omega (arith, w.count-is, c.loop-j.invariant.1), long, subst (Places (c.loop-j.j + 1) (unit (goal.at.loop-j-preserved c).Start) x listed) (sym w.count-is) (places_more (unit (goal.at.loop-j-preserved c).Start) x listed kept (get_or-set_same c.loop-j.places c.loop-j.count c.loop-j.j 0 room) (e ∙ w.if-coefficient_is.true)))
       | else-coefficient_is w ↦ (omega (arith, taken), omega (arith, w.count-is, c.loop-j.invariant.1), long, subst (Places (c.loop-j.j + 1) (unit (goal.at.loop-j-preserved c).Start) x listed) (sym w.count-is) (places_same (unit (goal.at.loop-j-preserved c).Start) x listed kept (e ∙ w.if-coefficient_is.false)))
     ]

@@ -19,7 +19,7 @@ added s i =
     get_or s.args.sums.now i (pos 0) +ℤ six_at s.args.twice.now (s.args.a + i) (s.args.b + i) (s.args.c + i) (s.args.d + i) (s.args.e + i) (s.args.f + i)
 
 pub loop-k-preserved : goal.loop-k-preserved
-loop-k-preserved c = 
+loop-k-preserved c =
     let m : ℕ = c.part_end-end.result - c.loop-k.k in
     let part_inside : c.loop-k.k + m ≤ length c.loop-k.sums = omega (arith, c.part_end-end.ensures.0, c.part_end-end.ensures.2) in
     let part_added : (part : List ℤ) → Added (λ j. six_at c.args.twice.now (c.args.a + c.loop-k.k + j) (c.args.b + c.loop-k.k + j) (c.args.c + c.loop-k.k + j) (c.args.d + c.loop-k.k + j) (c.args.e + c.loop-k.k + j) (c.args.f + c.loop-k.k + j)) (take m (drop c.loop-k.k c.loop-k.sums)) part → (j : ℕ) → j < m → get_or part j (pos 0) ≡ added (goal.at.loop-k-preserved c).Start (c.loop-k.k + j) = λ part h j q. h.inside j (omega (arith, part_long c.loop-k.k m c.loop-k.sums part_inside))

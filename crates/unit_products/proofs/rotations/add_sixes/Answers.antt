@@ -16,8 +16,8 @@ loop-m-init c = (refl, omega arith, none_summed c.args.n c.args.twice.now c.requ
 
 pub loop-m-preserved : goal.loop-m-preserved
 loop-m-preserved c = let m = c.loop-m.m in (
-      c.add_six.ensures.0 ∙ c.loop-m.invariant.0,
-      omega (arith, c.loop-m-test.true),
-      six_summed c.args.n c.args.twice.now c.requires.0.twice_below (place (goal.at.loop-m-preserved c).Start) m c.args.sums.now c.loop-m.sums c.add_six.new.sums c.requires.0.long c.loop-m.invariant.2
-          (rw (c.start-a.ensures, c.start-b.ensures, c.start-c.ensures, c.start-d.ensures, c.start-e.ensures, c.start-f.ensures) at c.add_six.ensures.1),
-    )
+  c.add_six.ensures.0 ∙ c.loop-m.invariant.0,
+  omega (arith, c.loop-m-test.true),
+  six_summed c.args.n c.args.twice.now c.requires.0.twice_below (place (goal.at.loop-m-preserved c).Start) m c.args.sums.now c.loop-m.sums c.add_six.new.sums c.requires.0.long c.loop-m.invariant.2
+      (rw (c.start-a.ensures, c.start-b.ensures, c.start-c.ensures, c.start-d.ensures, c.start-e.ensures, c.start-f.ensures) at c.add_six.ensures.1),
+)

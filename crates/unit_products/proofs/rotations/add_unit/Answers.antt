@@ -14,9 +14,8 @@ use Rattle.unit_products.proofs.RotatedSums.{unit_summed}
 use Rattle.unit_products.proofs.rotations.add_unit.Goals as goal
 
 pub returns : goal.returns
-returns c = 
-    let listed : Places c.args.n (value c.args.ua c.args.ub) (coefficient c.args.x.now) c.places_of-count.new.places c.places_of-count.result = subst (λ (u : ℤ[ω]). Places c.args.n u (coefficient c.args.x.now) c.places_of-count.new.places c.places_of-count.result) (ap₂ value (to_z-of_z c.ranges.ua) (to_z-of_z c.ranges.ub)) c.places_of-count.ensures.1 in
-    (
+returns c =
+    let listed : Places c.args.n (value c.args.ua c.args.ub) (coefficient c.args.x.now) c.places_of-count.new.places c.places_of-count.result = subst (λ (u : ℤ[ω]). Places c.args.n u (coefficient c.args.x.now) c.places_of-count.new.places c.places_of-count.result) (ap₂ value (to_z-of_z c.ranges.ua) (to_z-of_z c.ranges.ub)) c.places_of-count.ensures.1 in (
       c.places_of-count.ensures.0,
       c.add_sixes-done.ensures.0,
       unit_summed c.args.n c.args.twice.now c.requires.1.twice_below c.places_of-count.new.places c.places_of-count.result c.add_sixes-done.result c.requires.1.N_small listed c.add_sixes-done.ensures.1 c.add_sixes-done.ensures.2 c.add_rest.ensures,

@@ -39,7 +39,7 @@ add_unit-requires c = let h = c.loop-k.invariant.3 in
     )
 
 pub loop-k-preserved : goal.loop-k-preserved
-loop-k-preserved c = 
+loop-k-preserved c =
     let handed : value (to_z w32 (of_z w32 c.unit-u.result.a)) (to_z w32 (of_z w32 c.unit-u.result.b)) ≡ value c.unit-u.result.a c.unit-u.result.b = pair_read {w = w32} (search rules) (search rules) in
     let taken = c.loop-k-test.true in
     let m : ℕ = 6 - c.loop-k.k in

@@ -20,12 +20,14 @@ use Rattle.unit_products.proofs.RotatedSums.{run_is, twice_below}
 use Rattle.unit_products.proofs.rotations.multiply_with.Goals as goal
 
 pub add_units-requires : goal.add_units-requires
-add_units-requires c = 
+add_units-requires c =
     let laid_out : Twice c.args.y.now c.lay_out_twice.new.twice = let y = c.args.y.now in
     let a = c.requires.0 in
     let can : repeatable y (length c.args.twice.now) ≡ true = repeatable_holds y (length c.args.twice.now) (omega (arith, a.y_long, a.N_small)) (omega (arith, a.y_long, c.requires.1)) a.y_small in
     subst (Twice y) (sym (was_formed (y ++ y) c.args.twice.now can c.lay_out_twice.ensures).1) (twice_joined y) in
-    let a = c.requires.0 in record { x_len = (a.x_long, a.units, c.requires.3); zeros = (
+    let a = c.requires.0 in record {
+      x_len = (a.x_long, a.units, c.requires.3);
+      zeros = (
         c.clear.ensures.1,
         record {
           N_small = a.N_small;
@@ -37,10 +39,11 @@ add_units-requires c =
           sums_below = λ k. omega (arith, ap nat_abs (c.clear.ensures.1 k));
           twice_below = twice_below laid_out a.y_small;
         },
-      ) }
+      );
+    }
 
 pub returns : goal.returns
-returns c = 
+returns c =
     let laid_out : Twice c.args.y.now c.lay_out_twice.new.twice = let y = c.args.y.now in
     let a = c.requires.0 in
     let can : repeatable y (length c.args.twice.now) ≡ true = repeatable_holds y (length c.args.twice.now) (omega (arith, a.y_long, a.N_small)) (omega (arith, a.y_long, c.requires.1)) a.y_small in

@@ -17,7 +17,7 @@ pub slice_bounds-product-end : goal.slice_bounds-product-end
 slice_bounds-product-end c = omega (arith, ap length c.zeros-product.ensures, few (goal.at.slice_bounds-product-end c).Start)
 
 pub slice_bounds-open_with-end : goal.slice_bounds-open_with-end
-slice_bounds-open_with-end c = 
+slice_bounds-open_with-end c =
     let part : let n = c.args.p.n in length (take (2 * n) c.zeros-product.result) ≡ 2 * n = zeros_part c.args.p.n c.zeros-product.result (few (goal.at.slice_bounds-open_with-end c).Start) c.zeros-product.ensures in
     sym part
 
@@ -25,12 +25,12 @@ pub slice_bounds-m-end : goal.slice_bounds-m-end
 slice_bounds-m-end c = omega (arith, ap length c.zeros-m.ensures, few (goal.at.slice_bounds-m-end c).Start)
 
 pub slice_bounds-open_with-end-2 : goal.slice_bounds-open_with-end-2
-slice_bounds-open_with-end-2 c = 
+slice_bounds-open_with-end-2 c =
     let part_2 : let n = c.args.p.n in length (take (2 * n) c.zeros-m.result) ≡ 2 * n = zeros_part c.args.p.n c.zeros-m.result (few (goal.at.slice_bounds-open_with-end-2 c).Start) c.zeros-m.ensures in
     sym part_2
 
 pub open_with-requires : goal.open_with-requires
-open_with-requires c = 
+open_with-requires c =
     let part : let n = c.args.p.n in length (take (2 * n) c.zeros-product.result) ≡ 2 * n = zeros_part c.args.p.n c.zeros-product.result (few (goal.at.open_with-requires c).Start) c.zeros-product.ensures in
     let part_2 : let n = c.args.p.n in length (take (2 * n) c.zeros-m.result) ≡ 2 * n = zeros_part c.args.p.n c.zeros-m.result (few (goal.at.open_with-requires c).Start) c.zeros-m.ensures in
     record { passes = c.requires; product_len = (part, part_2) }

@@ -1,0 +1,22 @@
+-- `etru_begin_bundle` meets its contract.
+use mathlib.Core.Path.{sym, ◌∙◌, ap}
+use borrow.Author.Rules.{rules}
+use Rattle.refusals.proofs.Checks.{gives_done, gives_refused}
+use Rattle.parameters.specs.Sets.{made}
+use Rattle.heads.specs.Heads.{head_of}
+use Rattle.bundles.specs.Calls.{bundle_checks}
+use Rattle.bundles.specs.Steps.{start_of}
+use Rattle.bundles.proofs.MadeParameters.{made_accepted, made_refused}
+use Rattle.etru_c.proofs.etru_begin_bundle.Goals as goal
+
+pub returns-in-Accepted : goal.returns-in-Accepted
+returns-in-Accepted c = let file = c.args.file.now in
+    let e = sym (ap made c.in-Accepted.is) ∙ c.begin-start.ensures.1 in
+    let passes = (made_accepted (bundle_checks file) (head_of file) c.in-Accepted.p e).0 in
+    gives_done (bundle_checks file) _ c.args.at.now _ passes c.begin-start.ensures.0
+
+pub returns-in-Refused : goal.returns-in-Refused
+returns-in-Refused c = let file = c.args.file.now in
+    let e = sym (ap made c.in-Refused.is) ∙ c.begin-start.ensures.1 in
+    let g = gives_refused (bundle_checks file) (start_of file) c.args.at.now _ (made_refused (bundle_checks file) (head_of file) c.in-Refused.refusal e) in
+    (c.number.ensures ∙ g.0, g.1)
