@@ -11,7 +11,7 @@ use Rattle.class_products.proofs.StartsOf.{row_start_most, starts_none, starts_k
 use Rattle.class_products.proofs.starts.starts_of.Given as goal
 
 abbrev pub invariant-loop-j : goal.invariant-loop-j
-invariant-loop-j l = (l.j ≤ l.n) × (l.count ≤ l.j) × (length l.starts ≡ length l.initial.starts) × Starts l.n l.j (λ l.j. get_or l.classes l.j 0) l.starts l.count
+invariant-loop-j l = (l.j ≤ l.n) × (l.count ≤ l.j) × (length l.starts ≡ length l.initial.starts) × Starts l.n l.j (λ m. get_or l.classes m 0) l.starts l.count
 
 abbrev pub decreases-loop-j : goal.decreases-loop-j
 decreases-loop-j l = l.n - l.j

@@ -1,0 +1,40 @@
+-- `starts_of` meets its contract. The loop's invariant: the runs that the classes so far bring are listed.
+use mathlib.Core.Path.{◌≡◌, refl, sym, ◌∙◌, ap, subst}
+use mathlib.Core.List.{List}
+use Prim.Native.Nat.{ℕ, ◌+◌, ◌-◌, ◌*◌, ◌≤◌, ◌<◌}
+use native.Mathlib.Omega.{arith}
+use lib.ListN.{length, get_or, set, length-set}
+use lib.Seq.{get_or-set_same}
+use Rattle.class_products.specs.Steps.{Starts, row_start, row_starts}
+use Rattle.class_products.proofs.StartsOf.{row_start_most, starts_none, starts_kept, starts_more, starts_same}
+use Rattle.class_products.proofs.starts.starts_of.Goals as goal
+use Rattle.class_products.proofs.starts.starts_of.Goals.{Start, then-c-ne0, else-c-ne0}
+
+abbrev class : Start → ℕ → ℕ
+class s j = get_or s.args.classes.now j 0
+
+-- where a row begins, and a run at most
+begins : (n c : ℕ) {rows : List ℕ} → rows ≡ row_starts n → get_or rows c 0 ≡ row_start n c
+unfolding row_start
+begins n c e = ap (λ (l : List ℕ). get_or l c 0) e
+
+most : (n c j : ℕ) {rows : List ℕ} → n ≤ 1024 → rows ≡ row_starts n → get_or rows c 0 + (n - j) ≤ 5 * 1024
+most n c j p e = omega (arith, row_start_most n c, begins n c e)
+
+pub loop-j-init : goal.loop-j-init
+loop-j-init c = (omega arith, omega arith, refl, starts_none c.args.n (class (goal.at.loop-j-init c).Start) c.args.starts.now)
+
+pub loop-j-preserved : goal.loop-j-preserved
+loop-j-preserved c = let n = c.args.n in
+    let k = class (goal.at.loop-j-preserved c).Start c.loop-j.j in
+    let taken = c.loop-j-test.true in
+    let v : ℕ = get_or c.row_starts-rows.result k 0 + (n - c.loop-j.j) in
+    let listed = set c.loop-j.starts c.loop-j.count v in
+    let kept = starts_kept n (class (goal.at.loop-j-preserved c).Start) c.loop-j.starts v c.loop-j.invariant.3 in
+    let long = length-set c.loop-j.starts c.loop-j.count v ∙ c.loop-j.invariant.2 in
+    let room : c.loop-j.count < length c.loop-j.starts = omega (arith, taken, c.loop-j.invariant.1, c.loop-j.invariant.2, c.requires.2) in
+    let written = get_or-set_same c.loop-j.starts c.loop-j.count v 0 room ∙ ap (λ (b : ℕ). b + (n - c.loop-j.j)) (begins n k c.row_starts-rows.ensures) in
+    elim c.if-c-ne0.branch [
+      | then-c-ne0 w ↦ (omega (arith, taken), omega (arith, w.count-is, c.loop-j.invariant.1), long, subst (Starts n (c.loop-j.j + 1) (class (goal.at.loop-j-preserved c).Start) listed) (sym w.count-is) (starts_more n (class (goal.at.loop-j-preserved c).Start) listed taken kept written w.if-c-ne0.true))
+      | else-c-ne0 w ↦ (omega (arith, taken), omega (arith, w.count-is, c.loop-j.invariant.1), long, subst (Starts n (c.loop-j.j + 1) (class (goal.at.loop-j-preserved c).Start) listed) (sym w.count-is) (starts_same n (class (goal.at.loop-j-preserved c).Start) listed kept w.if-c-ne0.false))
+    ]
