@@ -21,7 +21,8 @@
 //   changes what is lent to a call, or uses its outputs, before it returns. No call depends on an earlier one.
 //   Stack, at every N: etru_convolve at most 100 KiB, etru_open_files 72 KiB, etru_seal_places 36 KiB, etru_open,
 //   etru_open_short, etru_open_entry, etru_check_key and etru_spread_places 28 KiB, etru_seal, etru_seal_short,
-//   etru_read, etru_read_bundle, etru_begin_bundle and etru_write_bundle 12 KiB, each other function 1 KiB.
+//   etru_read, etru_read_bundle, etru_begin_bundle and etru_write_bundle 12 KiB, each other function 1 KiB, as
+//   compiled by an older kit.
 //   Of the C library at most memcmp, memcpy, memmove and memset are needed.
 //
 // What is not promised

@@ -23,7 +23,7 @@
 //! [`convolve`] takes at most 100 KiB of stack, [`open_files`] 72 KiB, [`seal_places`] 36 KiB,
 //! [`open_short`] 29 KiB, [`open`], [`open_entry`], [`check_key`] and [`spread_places`] 28 KiB,
 //! [`seal`], [`seal_short`], [`read`], [`Bundle::new`], [`read_bundle`] and [`write_bundle`] 12 KiB
-//! and each other call 1 KiB.
+//! and each other call 1 KiB, as compiled by an older kit.
 //!
 //! # Example
 //!
