@@ -9,29 +9,30 @@ ghost use Rattle.eisenstein.specs.Calls.{answered};
 ghost use Rattle.parameters.specs.Sets.{set, made};
 ghost use Rattle.opened_arrays.specs.Answers.{answer_of};
 
-use eisenstein::Reduced;
-use opened_arrays::Opened;
-use parameters::Made;
+use refusals::Refusal;
+use parameters::Parameters;
+use eisenstein::Pair;
+
 
 // Hands an answer on: a remainder to the outputs, or a refusal's number alone.
-pub fn give(answer: Reduced, ra: &mut i32, rb: &mut i32) -> u32
+pub fn give(answer: Result<Pair, Refusal>, ra: &mut i32, rb: &mut i32) -> u32
     ensures { Gives (answered answer) result (value ra.old rb.old) (value ra.new rb.new) }
 {
     match answer {
-        Reduced::Remainder(r) => {
+        Ok(r) => {
             let a = r.a;
             let b = r.b;
             *ra = a;
             *rb = b;
             0
         }
-        Reduced::Refused(refusal) => refusal.number(),
+        Err(refusal) => refusal.number(),
     }
 }
 
 // Hands parameters on to the outputs, or a refusal's number alone.
 pub fn give_parameters(
-    answer: Made,
+    answer: Result<Parameters, Refusal>,
     n: &mut u32,
     c: &mut i32,
     d: &mut i32,
@@ -43,7 +44,7 @@ pub fn give_parameters(
         (set n.new c.new d.new s.new t.new) }
 {
     match answer {
-        Made::Accepted(p) => {
+        Ok(p) => {
             let pn = p.n;
             let pc = p.c;
             let pd = p.d;
@@ -56,19 +57,19 @@ pub fn give_parameters(
             *t = pt;
             0
         }
-        Made::Refused(refusal) => refusal.number(),
+        Err(refusal) => refusal.number(),
     }
 }
 
 // Hands the length of a message on to the output, or a refusal's number alone.
-pub fn give_length(answer: Opened, used: &mut usize) -> u32
+pub fn give_length(answer: Result<usize, Refusal>, used: &mut usize) -> u32
     ensures { Gives (answer_of answer) result used.old used.new }
 {
     match answer {
-        Opened::Message(length) => {
+        Ok(length) => {
             *used = length;
             0
         }
-        Opened::Refused(refusal) => refusal.number(),
+        Err(refusal) => refusal.number(),
     }
 }

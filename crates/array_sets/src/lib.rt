@@ -11,7 +11,7 @@ ghost use Rattle.array_sets.specs.Sets.{array_check};
 mod sets;
 
 use parameters::Parameters;
-use refusals::Answer;
+use refusals::Refusal;
 
 // What an array can be held to: the set of f, of g or of φ, or that it is reduced.
 #[derive(Clone, Copy)]
@@ -24,11 +24,9 @@ pub enum ArraySet {
 }
 
 // Whether one array of a parameter set is in a set.
-pub fn check_array(p: Parameters, which: ArraySet, x: &[i32]) -> Answer
+pub fn check_array(p: Parameters, which: ArraySet, x: &[i32]) -> Result<(), Refusal>
     ensures { answered result ≡ array_check (set_of p) which x.now }
 {
-    match p.check() {
-        Answer::Done => sets::array_refusal(p, which, x),
-        Answer::Refused(refusal) => Answer::Refused(refusal),
-    }
+    p.check()?;
+    sets::array_refusal(p, which, x)
 }

@@ -7,7 +7,7 @@ ghost use Rattle.array_sets.specs.Sets.{in_set, not_in_set, array_checks};
 
 use crate::ArraySet;
 use parameters::Parameters;
-use refusals::{Answer, Refusal};
+use refusals::Refusal;
 use set_tests::{reduced_modulo_2, reduced_modulo_q, units_only, whole_triples};
 
 fn in_set(p: Parameters, which: ArraySet, x: &[i32]) -> bool
@@ -28,28 +28,28 @@ fn in_set(p: Parameters, which: ArraySet, x: &[i32]) -> bool
     }
 }
 
-fn not_in_set(which: ArraySet) -> Answer
+fn not_in_set(which: ArraySet) -> Result<(), Refusal>
     ensures { answered result ≡ refused (not_in_set which) }
 {
     match which {
-        ArraySet::F => Answer::Refused(Refusal::FNotInItsSet),
-        ArraySet::G => Answer::Refused(Refusal::GNotInItsSet),
-        ArraySet::Phi => Answer::Refused(Refusal::PhiNotInItsSet),
-        ArraySet::ReducedModulo2 => Answer::Refused(Refusal::NotReducedModulo2),
-        ArraySet::ReducedModuloQ => Answer::Refused(Refusal::NotReducedModuloQ),
+        ArraySet::F => Err(Refusal::FNotInItsSet),
+        ArraySet::G => Err(Refusal::GNotInItsSet),
+        ArraySet::Phi => Err(Refusal::PhiNotInItsSet),
+        ArraySet::ReducedModulo2 => Err(Refusal::NotReducedModulo2),
+        ArraySet::ReducedModuloQ => Err(Refusal::NotReducedModuloQ),
     }
 }
 
-pub(crate) fn array_refusal(p: Parameters, which: ArraySet, x: &[i32]) -> Answer
+pub(crate) fn array_refusal(p: Parameters, which: ArraySet, x: &[i32]) -> Result<(), Refusal>
     requires { Passes (parameter_checks (set_of p)) }
     ensures { answered result ≡ outcome (array_checks (set_of p) which x.now) tt }
 {
     let n = p.n;
     if x.len() != 2 * (n as usize) {
-        return Answer::Refused(Refusal::WrongLength);
+        return Err(Refusal::WrongLength);
     }
     if !in_set(p, which, x) {
         return not_in_set(which);
     }
-    Answer::Done
+    Ok(())
 }

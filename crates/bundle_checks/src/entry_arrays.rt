@@ -16,11 +16,11 @@ use bundle_heads::entry_count;
 use bundle_steps::{array_at, next_at};
 use bundles::FIRST_ENTRY;
 use parameters::Parameters;
-use refusals::Answer;
 use stored_numbers::read_numbers;
+use refusals::Refusal;
 
 // Judges the entry at this place. Its numbers go to a lent array.
-fn array_refusal(p: Parameters, file: &[u8], at: usize, x: &mut [i32]) -> Answer
+fn array_refusal(p: Parameters, file: &[u8], at: usize, x: &mut [i32]) -> Result<(), Refusal>
     requires { length (part_at file.now at) ≡ 2 * length x.old }
     ensures { answered result ≡ array_check (set_of p) ReducedModuloQ (numbers_from (part_at file.now at)) }
 {
@@ -30,7 +30,7 @@ fn array_refusal(p: Parameters, file: &[u8], at: usize, x: &mut [i32]) -> Answer
 }
 
 // Judges all entries, each in the same lent array.
-fn arrays_refusal_in(p: Parameters, file: &[u8], x: &mut [i32]) -> Answer
+fn arrays_refusal_in(p: Parameters, file: &[u8], x: &mut [i32]) -> Result<(), Refusal>
     requires { (set_of p ≡ head_of file.now) × Passes (count_checks file.now) × (length x.old ≡ 2 * p.n) }
     ensures { answered result ≡ outcome (arrays_checks (head_of file.now) (entries_of file.now)) tt }
 {
@@ -38,20 +38,15 @@ fn arrays_refusal_in(p: Parameters, file: &[u8], x: &mut [i32]) -> Answer
     let mut at = FIRST_ENTRY;
     let mut k = 0;
     while k < count {
-        match array_refusal(p, file, at, x) {
-            Answer::Done => {}
-            Answer::Refused(refusal) => {
-                return Answer::Refused(refusal);
-            }
-        }
+        array_refusal(p, file, at, x)?;
         at = next_at(file, at);
         k += 1;
     }
-    Answer::Done
+    Ok(())
 }
 
 // The arrays are judged one at a time in 8 KiB of stack.
-pub(crate) fn arrays_refusal(p: Parameters, file: &[u8]) -> Answer
+pub(crate) fn arrays_refusal(p: Parameters, file: &[u8]) -> Result<(), Refusal>
     requires { (set_of p ≡ head_of file.now) × Passes (count_checks file.now) }
     ensures { answered result ≡ outcome (arrays_checks (head_of file.now) (entries_of file.now)) tt }
 {

@@ -18,59 +18,55 @@ use bundle_heads::read_bundle_head;
 use bundle_stops::any_stop_twice;
 use bundles::FIRST_ENTRY;
 use entry_arrays::arrays_refusal;
-use parameters::{Made, Parameters};
-use refusals::{Answer, Refusal};
+use parameters::Parameters;
+use refusals::Refusal;
 
 // 25 over all stops, then each entry's 12.
-fn entries_refusal(p: Parameters, file: &[u8]) -> Answer
+fn entries_refusal(p: Parameters, file: &[u8]) -> Result<(), Refusal>
     requires { (set_of p ≡ head_of file.now) × Passes (count_checks file.now) }
     ensures { answered result ≡ outcome (entries_checks (head_of file.now) (entries_of file.now)) tt }
 {
     let twice = any_stop_twice(file);
     if twice {
-        return Answer::Refused(Refusal::StopOccursTwice);
+        return Err(Refusal::StopOccursTwice);
     }
     arrays_refusal(p, file)
 }
 
-fn judged(p: Parameters, file: &[u8]) -> Made
+fn judged(p: Parameters, file: &[u8]) -> Result<Parameters, Refusal>
     requires { (set_of p ≡ head_of file.now) × Passes (count_checks file.now) }
     ensures { made result ≡ outcome (entries_checks (head_of file.now) (entries_of file.now)) (head_of file.now) }
 {
-    match entries_refusal(p, file) {
-        Answer::Done => Made::Accepted(p),
-        Answer::Refused(refusal) => Made::Refused(refusal),
-    }
+    entries_refusal(p, file)?;
+    Ok(p)
 }
 
 // The parameters of a bundle that is accepted whole, or its first refusal.
-pub fn check_bundle(file: &[u8]) -> Made
+pub fn check_bundle(file: &[u8]) -> Result<Parameters, Refusal>
     ensures { made result ≡ making_reader file.now }
 {
-    match read_bundle_head(file) {
-        Made::Accepted(p) => judged(p, file),
-        Made::Refused(refusal) => Made::Refused(refusal),
-    }
+    let p = read_bundle_head(file)?;
+    judged(p, file)
 }
 
 // Where a reader begins, and the parameters of the bundle or its first refusal.
 #[derive(Clone, Copy)]
 pub struct Start {
     pub at: usize,
-    pub made: Made,
+    pub made: Result<Parameters, Refusal>,
 }
 
 pub fn begin(bytes: &[u8]) -> Start
     ensures { (result.at ≡ start_of bytes.now) × (made result.made ≡ making_reader bytes.now) }
 {
     match check_bundle(bytes) {
-        Made::Accepted(p) => Start {
+        Ok(p) => Start {
             at: FIRST_ENTRY,
-            made: Made::Accepted(p),
+            made: Ok(p),
         },
-        Made::Refused(refusal) => Start {
+        Err(refusal) => Start {
             at: bytes.len(),
-            made: Made::Refused(refusal),
+            made: Err(refusal),
         },
     }
 }

@@ -13,7 +13,7 @@ ghost use Rattle.bundles.specs.Calls.{right_length, reading_parameters};
 use bundles::right_length;
 use heads::bytes::unsigned_at;
 use heads::{HEAD_BYTES, kinds};
-use parameters::{Made, Parameters};
+use parameters::Parameters;
 use refusals::Refusal;
 
 // "6–7: N", of any bytes.
@@ -31,23 +31,21 @@ pub fn entry_count(file: &[u8]) -> u32
 }
 
 // 7 for the bundle's own length.
-fn counted(p: Parameters, file: &[u8]) -> Made
+fn counted(p: Parameters, file: &[u8]) -> Result<Parameters, Refusal>
     ensures { made result ≡ outcome (7 if not (right_length p.n (count_of file.now) (length file.now)) ∷ []) (set_of p) }
 {
     let n = p.n;
     let count = entry_count(file);
     if !right_length(n, count as usize, file.len()) {
-        return Made::Refused(Refusal::WrongLength);
+        return Err(Refusal::WrongLength);
     }
-    Made::Accepted(p)
+    Ok(p)
 }
 
 // The parameters of a bundle whose head, count and length are right.
-pub fn read_bundle_head(file: &[u8]) -> Made
+pub fn read_bundle_head(file: &[u8]) -> Result<Parameters, Refusal>
     ensures { made result ≡ reading_parameters file.now }
 {
-    match head_reading::read_head(kinds::BUNDLE, file) {
-        Made::Accepted(p) => counted(p, file),
-        Made::Refused(refusal) => Made::Refused(refusal),
-    }
+    let p = head_reading::read_head(kinds::BUNDLE, file)?;
+    counted(p, file)
 }

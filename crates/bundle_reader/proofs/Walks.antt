@@ -1,4 +1,5 @@
 -- The calls one after another walk the entries of a bundle: the promises of specs/Promises.antt.
+use Rattle.std.specs.Prelude.{Option}
 use mathlib.Core.Path.{◌≡◌, sym, ◌∙◌, ap, ap₂}
 use mathlib.Core.Bool.{false}
 use mathlib.Core.List.{List, ◌++◌, map}
@@ -12,7 +13,6 @@ use Rattle.heads.specs.Heads.{head_of}
 use Rattle.bundles.specs.Bundles.{count_of, Stored, stored_of}
 use Rattle.bundles.specs.Calls.{bundle_checks}
 use Rattle.bundles.specs.Steps.{stands_at, stop_at, part_at, next_at, Handed, past, handed, walk}
-use Rattle.bundles.specs.declared.Stop.{Stop}
 use Rattle.bundles.proofs.Entries.{stored_count}
 use Rattle.bundles.proofs.Lengths.{entry_length_lem}
 use Rattle.bundles.proofs.Steps.{stands_not, stop_past, part_past, next_past, starts_past}
@@ -20,7 +20,7 @@ use Rattle.bundles.proofs.Walking.{walking}
 use Rattle.bundle_reader.specs.Promises.{WalkOver, WalksTheEntries, RefusedHasNoEntry}
 
 -- what a step hands out
-abbrev both : Stop → List ℕ → Handed
+abbrev both : Option ℕ → List ℕ → Handed
 both stop part = record { stop = stop; part = part }
 
 abbrev step : List ℕ → ℕ → Handed
@@ -95,7 +95,7 @@ module _ (bytes : Bor (List ℕ)) (w : WalkOver bytes) where
     got_past : (k : ℕ) → got k ≡ past
     got_past k = got_is k ∙ ap (step file) (stays k) ∙ ap₂ both (stop_past file (length file) none_stands) (part_past file (length file) none_stands)
 
-abbrev of_stop : Handed → Stop
+abbrev of_stop : Handed → Option ℕ
 of_stop h = h.stop
 
 abbrev of_part : Handed → List ℕ

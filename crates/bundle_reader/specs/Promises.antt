@@ -1,4 +1,5 @@
 -- What is promised of the calls one after another: of any readers and entries that their contracts allow.
+use Rattle.std.specs.Prelude.{None, Some}
 use Rattle.std.specs.Prelude.{◌≡◌, List, [], ℕ, suc, ◌≤◌, ◌<◌, get_or}
 use Rattle.std.specs.Borrow.{Bor}
 use Rattle.refusals.specs.Outcomes.{refused, outcome, Passes}
@@ -7,7 +8,6 @@ use Rattle.heads.specs.Heads.{head_of}
 use Rattle.bundles.specs.Bundles.{count_of, Stored, stored_of}
 use Rattle.bundles.specs.Calls.{bundle_checks, making_reader}
 use Rattle.bundles.specs.Steps.{stop_at, part_at, next_at, start_of}
-use Rattle.bundles.specs.declared.Stop.TheVariants.{Number, PastTheEnd}
 use Rattle.bundle_reader.specs.declared.Reader.{Reader}
 use Rattle.bundle_reader.specs.declared.Entry.{Entry}
 
@@ -31,10 +31,10 @@ pub record WalkOver (bytes : Bor (List ℕ)) : Type 0 where
 
 -- "hands out for each the stop and the part of the bundle that is its sealed array"; "a step past the last entry says so"
 abbrev pub HandsOut : Stored → Entry → Type 0
-HandsOut s e = (e.stop ≡ Number s.stop) × (e.array.now ≡ s.part)
+HandsOut s e = (e.stop ≡ Some s.stop) × (e.array.now ≡ s.part)
 
 abbrev pub SaysPast : Entry → Type 0
-SaysPast e = (e.stop ≡ PastTheEnd) × (e.array.now ≡ [])
+SaysPast e = (e.stop ≡ None) × (e.array.now ≡ [])
 
 -- Over every bundle that is accepted, the k-th entry of a walk is the k-th of the bundle, and every later one says that no entry is left. (The default of `get_or` is never reached.)
 abbrev pub WalksTheEntries : Type 0

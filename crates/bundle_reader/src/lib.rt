@@ -12,21 +12,21 @@ ghost use Rattle.bundles.specs.Steps.{stop_at, part_at, next_at, start_of};
 
 use bundle_checks::begin;
 use bundle_steps::{array_at, next_at, stop_at};
-use bundles::Stop;
-use parameters::Made;
+use refusals::Refusal;
+use parameters::Parameters;
 
 // The bundle, the place of the next entry, and the bundle's parameters or its first refusal. After a refusal no entry is left.
 #[derive(Clone, Copy)]
 pub struct Reader<'a> {
     pub bytes: &'a [u8],
     pub at: usize,
-    pub made: Made,
+    pub made: Result<Parameters, Refusal>,
 }
 
 // What a step hands out: a stop and the part of the bundle that is its sealed array, or that no entry is left.
 #[derive(Clone, Copy)]
 pub struct Entry<'a> {
-    pub stop: Stop,
+    pub stop: Option<u32>,
     pub array: &'a [u8],
 }
 

@@ -18,8 +18,8 @@ use bundle_checks::check_bundle;
 use bundle_heads::{entry_count, read_bundle_head};
 use bundle_stops::read_stops;
 use entry_numbers::read_arrays;
-use parameters::{Made, Parameters};
-use refusals::{Answer, Refusal};
+use parameters::Parameters;
+use refusals::Refusal;
 
 // 7 for both outputs.
 fn outputs_right(n: u32, file: &[u8], stops: usize, numbers: usize) -> bool
@@ -33,7 +33,7 @@ fn outputs_right(n: u32, file: &[u8], stops: usize, numbers: usize) -> bool
 }
 
 // The stops and the numbers, of a bundle whose head, count and length are right.
-fn read_entries(p: Parameters, file: &[u8], stops: &mut [u32], numbers: &mut [i32]) -> Answer
+fn read_entries(p: Parameters, file: &[u8], stops: &mut [u32], numbers: &mut [i32]) -> Result<(), Refusal>
     requires { (set_of p ≡ head_of file.now) × Passes (count_checks file.now) }
     ensures gives { Gives (outcome (output_checks file.now (length stops.old) (length numbers.old)) (stops_of (entries_of file.now)))
         (number (answered result)) stops.old stops.new }
@@ -42,27 +42,21 @@ fn read_entries(p: Parameters, file: &[u8], stops: &mut [u32], numbers: &mut [i3
 {
     let n = p.n;
     if !outputs_right(n, file, stops.len(), numbers.len()) {
-        return Answer::Refused(Refusal::WrongLength);
+        return Err(Refusal::WrongLength);
     }
-    match check_bundle(file) {
-        Made::Accepted(checked) => {
-            read_stops(file, stops);
-            read_arrays(file, numbers);
-            Answer::Done
-        }
-        Made::Refused(refusal) => Answer::Refused(refusal),
-    }
+    let checked = check_bundle(file)?;
+    read_stops(file, stops);
+    read_arrays(file, numbers);
+    Ok(())
 }
 
 // The stops of a bundle to stops, and its arrays, one after another in stored order, to numbers.
-pub fn read_bundle(file: &[u8], stops: &mut [u32], numbers: &mut [i32]) -> Answer
+pub fn read_bundle(file: &[u8], stops: &mut [u32], numbers: &mut [i32]) -> Result<(), Refusal>
     ensures gives { Gives (reading_stops file.now (length stops.old) (length numbers.old))
         (number (answered result)) stops.old stops.new }
     ensures gives_2 { Gives (reading_numbers file.now (length stops.old) (length numbers.old))
         (number (answered result)) numbers.old numbers.new }
 {
-    match read_bundle_head(file) {
-        Made::Accepted(p) => read_entries(p, file, stops, numbers),
-        Made::Refused(refusal) => Answer::Refused(refusal),
-    }
+    let p = read_bundle_head(file)?;
+    read_entries(p, file, stops, numbers)
 }

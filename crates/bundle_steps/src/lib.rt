@@ -10,7 +10,7 @@ ghost use Rattle.bundles.specs.Steps.{stands_at, stop_at, part_at, next_at};
 
 use bundle_heads::coefficient_count;
 use bundle_stops::stop_in;
-use bundles::{STOP_BYTES, Stop, entry_length};
+use bundles::{STOP_BYTES, entry_length};
 
 // Whether an entry stands at this place.
 fn stands_at(bytes: &[u8], at: usize) -> bool
@@ -24,13 +24,13 @@ fn stands_at(bytes: &[u8], at: usize) -> bool
 }
 
 // The stop number of the entry at this place, or that no entry is left.
-pub fn stop_at(bytes: &[u8], at: usize) -> Stop
+pub fn stop_at(bytes: &[u8], at: usize) -> Option<u32>
     ensures { result ≡ stop_at bytes.now at }
 {
     if !stands_at(bytes, at) {
-        return Stop::PastTheEnd;
+        return None;
     }
-    Stop::Number(stop_in(bytes, at))
+    Some(stop_in(bytes, at))
 }
 
 // The part of the bundle that is the sealed array of the entry at this place; past the end it is empty.

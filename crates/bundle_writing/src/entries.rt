@@ -10,9 +10,9 @@ ghost use Rattle.bundles.specs.Calls.{arrays_checks, entries_given};
 
 use array_sets::{ArraySet, check_array};
 use parameters::Parameters;
-use refusals::Answer;
+use refusals::Refusal;
 
-fn array_refusal(p: Parameters, stops: &[u16], numbers: &[i32], k: usize) -> Answer
+fn array_refusal(p: Parameters, stops: &[u16], numbers: &[i32], k: usize) -> Result<(), Refusal>
     requires { (length numbers.now ≡ 2 * p.n * length stops.now) × (k < length stops.now) }
     ensures { answered result ≡ array_check (set_of p) ReducedModuloQ (array_of (entries_given p.n stops.now numbers.now) k) }
 {
@@ -23,19 +23,14 @@ fn array_refusal(p: Parameters, stops: &[u16], numbers: &[i32], k: usize) -> Ans
     check_array(p, ArraySet::ReducedModuloQ, &numbers[from..to])
 }
 
-pub(crate) fn arrays_refusal(p: Parameters, stops: &[u16], numbers: &[i32]) -> Answer
+pub(crate) fn arrays_refusal(p: Parameters, stops: &[u16], numbers: &[i32]) -> Result<(), Refusal>
     requires { Passes (parameter_checks (set_of p)) × (length numbers.now ≡ 2 * p.n * length stops.now) }
     ensures { answered result ≡ outcome (arrays_checks (set_of p) (entries_given p.n stops.now numbers.now)) tt }
 {
     let mut k = 0;
     while k < stops.len() {
-        match array_refusal(p, stops, numbers, k) {
-            Answer::Done => {}
-            Answer::Refused(refusal) => {
-                return Answer::Refused(refusal);
-            }
-        }
+        array_refusal(p, stops, numbers, k)?;
         k += 1;
     }
-    Answer::Done
+    Ok(())
 }

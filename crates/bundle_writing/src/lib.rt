@@ -15,43 +15,37 @@ mod lengths;
 mod writing;
 
 use parameters::Parameters;
-use refusals::{Answer, Refusal};
+use refusals::Refusal;
 
 // 7, 25 over all stops, then each entry's 12.
-fn given_refusal(p: Parameters, stops: &[u16], numbers: &[i32], room: usize) -> Answer
+fn given_refusal(p: Parameters, stops: &[u16], numbers: &[i32], room: usize) -> Result<(), Refusal>
     requires { Passes (parameter_checks (set_of p)) }
     ensures { answered result ≡ outcome (given_checks (set_of p) stops.now numbers.now room) tt }
 {
     let n = p.n;
     if !lengths::lengths_right(n, stops.len(), numbers.len(), room) {
-        return Answer::Refused(Refusal::WrongLength);
+        return Err(Refusal::WrongLength);
     }
     let twice = stop_sets::any_twice(stops);
     if twice {
-        return Answer::Refused(Refusal::StopOccursTwice);
+        return Err(Refusal::StopOccursTwice);
     }
     entries::arrays_refusal(p, stops, numbers)
 }
 
-fn write_given(p: Parameters, stops: &[u16], numbers: &[i32], file: &mut [u8]) -> Answer
+fn write_given(p: Parameters, stops: &[u16], numbers: &[i32], file: &mut [u8]) -> Result<(), Refusal>
     requires { Passes (parameter_checks (set_of p)) }
     ensures { Gives (writing_bundle (set_of p) stops.now numbers.now (length file.old)) (number (answered result)) file.old file.new }
 {
-    match given_refusal(p, stops, numbers, file.len()) {
-        Answer::Done => {
-            writing::write_file(p, stops, numbers, file);
-            Answer::Done
-        }
-        Answer::Refused(refusal) => Answer::Refused(refusal),
-    }
+    given_refusal(p, stops, numbers, file.len())?;
+    writing::write_file(p, stops, numbers, file);
+    Ok(())
 }
 
 // A bundle, to file. The numbers are the arrays of the entries, one after another.
-pub fn write_bundle(p: Parameters, stops: &[u16], numbers: &[i32], file: &mut [u8]) -> Answer
+pub fn write_bundle(p: Parameters, stops: &[u16], numbers: &[i32], file: &mut [u8]) -> Result<(), Refusal>
     ensures { Gives (writing_bundle (set_of p) stops.now numbers.now (length file.old)) (number (answered result)) file.old file.new }
 {
-    match p.check() {
-        Answer::Done => write_given(p, stops, numbers, file),
-        Answer::Refused(refusal) => Answer::Refused(refusal),
-    }
+    p.check()?;
+    write_given(p, stops, numbers, file)
 }

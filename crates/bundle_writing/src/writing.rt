@@ -12,8 +12,8 @@ use bundles::{FIRST_ENTRY, STOP_BYTES, entry_length};
 use head_writing::write_head;
 use heads::{HEAD_BYTES, kinds};
 use parameters::Parameters;
-use refusals::Answer;
 use stored_numbers::write_numbers;
+use refusals::Refusal;
 
 // One entry: its stop, then its array.
 fn write_entry(stop: u16, array: &[i32], out: &mut [u8])
@@ -60,7 +60,7 @@ pub(crate) fn write_file(p: Parameters, stops: &[u16], numbers: &[i32], file: &m
 {
     let n = p.n;
     // Nothing is refused: the kind is known, and the parameters and the length have passed.
-    let _answer: Answer = write_head(kinds::BUNDLE, p, file);
+    let _answer: Result<(), Refusal> = write_head(kinds::BUNDLE, p, file);
     write_count(stops.len(), file);
     write_entries(n, stops, numbers, &mut file[FIRST_ENTRY..]);
 }

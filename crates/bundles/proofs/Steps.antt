@@ -1,4 +1,5 @@
 -- The steps of a reader, where an entry stands and where none does.
+use Rattle.std.specs.Prelude.{None, Some}
 use mathlib.Core.Path.{◌≡◌, ap}
 use mathlib.Core.Bool.{Bool, true, false, cond}
 use mathlib.Core.List.{List, []}
@@ -10,7 +11,6 @@ use Rattle.heads.specs.Heads.{head_of}
 use Rattle.bundles.specs.Bundles.{entry_length, entry_start, stop_length, stop_in, stored_at}
 use Rattle.bundles.specs.Calls.{bundle_checks}
 use Rattle.bundles.specs.Steps.{stands_at, stop_at, part_at, next_at, start_after, start_of}
-use Rattle.bundles.specs.declared.Stop.TheVariants.{Number, PastTheEnd}
 
 module _ (file : List ℕ) (at : ℕ) where
   pub stands : at + entry_length (head_of file).N ≤ length file → stands_at file at ≡ true
@@ -27,9 +27,9 @@ module _ (file : List ℕ) (at : ℕ) where
 
   -- past the end
   module _ (e : stands_at file at ≡ false) where
-    pub stop_past : stop_at file at ≡ PastTheEnd
+    pub stop_past : stop_at file at ≡ None
     unfolding stop_at
-    stop_past = ap (λ (t : Bool). cond t (Number (stored_at (head_of file).N file at).stop) PastTheEnd) e
+    stop_past = ap (λ (t : Bool). cond t (Some (stored_at (head_of file).N file at).stop) None) e
 
     pub part_past : part_at file at ≡ []
     unfolding part_at
@@ -41,9 +41,9 @@ module _ (file : List ℕ) (at : ℕ) where
 
   -- what is handed out, and where the next entry stands
   module _ (e : stands_at file at ≡ true) where
-    pub stop_here : stop_at file at ≡ Number (stop_in file at)
+    pub stop_here : stop_at file at ≡ Some (stop_in file at)
     unfolding stop_at stored_at
-    stop_here = ap (λ (t : Bool). cond t (Number (stop_in file at)) PastTheEnd) e
+    stop_here = ap (λ (t : Bool). cond t (Some (stop_in file at)) None) e
 
     pub part_here : part_at file at ≡ take (4 * (head_of file).N) (drop (at + stop_length) file)
     unfolding part_at stored_at

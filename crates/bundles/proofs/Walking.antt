@@ -1,4 +1,5 @@
 -- The steps of a made reader hand out the entries of its bundle, and nothing else.
+use Rattle.std.specs.Prelude.{Option}
 use mathlib.Core.Path.{◌≡◌, refl, sym, ◌∙◌, ap, ap₂}
 use mathlib.Core.Bool.{false}
 use mathlib.Core.List.{List, ◌∷◌, ◌++◌, map}
@@ -14,7 +15,6 @@ use Rattle.bundles.specs.Bundles.{entry_length, entry_start, count_of, stored_at
 use Rattle.bundles.specs.Calls.{count_checks, bundle_checks}
 use Rattle.bundles.specs.Steps.{stands_at, stop_at, part_at, next_at, start_of, Handed, past, handed, walk, place_after}
 use Rattle.bundles.specs.Promises.{Walking, Stepping}
-use Rattle.bundles.specs.declared.Stop.{Stop}
 use Rattle.bundles.proofs.Steps.{stop_here, stop_past, part_past, next_past, starts}
 use Rattle.bundles.proofs.Entries.{entry_stored}
 use Rattle.bundles.proofs.Counted.{Counted, counted, entry_stands, entry_part, next_entry, none_behind}
@@ -26,7 +26,7 @@ unfolding walk
 walk-past file at zero e = refl
 walk-past file at (suc n) e =
     ap₂ (λ (h : Handed) (r : List Handed). h ∷ r)
-    (ap₂ (λ (s : Stop) (part : List ℕ). record { stop = s; part = part }) (stop_past file at e) (part_past file at e))
+    (ap₂ (λ (s : Option ℕ) (part : List ℕ). record { stop = s; part = part }) (stop_past file at e) (part_past file at e))
     (ap (λ (a : ℕ). walk file a n) (next_past file at e) ∙ walk-past file at n e)
 
 module _ (file : List ℕ) (c : Counted file) where
@@ -36,7 +36,7 @@ module _ (file : List ℕ) (c : Counted file) where
   -- what stands at entry j
   here : (j : ℕ) → j < count_of file → ◌≡◌ {A = Handed} (record { stop = stop_at file (entry_start N j); part = part_at file (entry_start N j) }) (handed (stored_at N file (entry_start N j)))
   unfolding stored_at
-  here j h = ap₂ (λ (s : Stop) (part : List ℕ). record { stop = s; part = part }) (stop_here file (entry_start N j) (entry_stands file c j h)) (entry_part file c j h)
+  here j h = ap₂ (λ (s : Option ℕ) (part : List ℕ). record { stop = s; part = part }) (stop_here file (entry_start N j) (entry_stands file c j h)) (entry_part file c j h)
 
   -- from entry j on, with k entries left
   walk_from : (j k n : ℕ) → j + k ≡ count_of file → walk file (entry_start N j) (k + n) ≡ map handed (stored_from N file (entry_start N j) k) ++ replicate n past

@@ -1,19 +1,18 @@
 -- The steps of a reader: "hands out for each the stop and the part of the bundle that is its sealed array", "a step past the last entry says so".
 -- Any bytes and any place have their step; in a bundle that is accepted the steps from its start on are its entries.
+use Rattle.std.specs.Prelude.{None, Option, Some}
 use Rattle.std.specs.Prelude.{Bool, cond, List, [], ◌∷◌, ℕ, zero, suc, ◌+◌, leb, length}
 use Rattle.refusals.specs.Outcomes.{Outcome, done, refused, outcome}
 use Rattle.heads.specs.Heads.{head_of}
 use Rattle.bundles.specs.Bundles.{entry_length, entry_start, Stored, stored_at}
 use Rattle.bundles.specs.Calls.{bundle_checks}
-use Rattle.bundles.specs.declared.Stop.{Stop}
-use Rattle.bundles.specs.declared.Stop.TheVariants.{Number, PastTheEnd}
 
 -- Whether an entry stands at a byte: it ends within the file.
 unfoldable pub stands_at : List ℕ → ℕ → Bool
 stands_at file at = leb (at + entry_length (head_of file).N) (length file)
 
-unfoldable pub stop_at : List ℕ → ℕ → Stop
-stop_at file at = cond (stands_at file at) (Number (stored_at (head_of file).N file at).stop) PastTheEnd
+unfoldable pub stop_at : List ℕ → ℕ → Option ℕ
+stop_at file at = cond (stands_at file at) (Some (stored_at (head_of file).N file at).stop) None
 
 unfoldable pub part_at : List ℕ → ℕ → List ℕ
 part_at file at = cond (stands_at file at) (stored_at (head_of file).N file at).part []
@@ -32,14 +31,14 @@ start_of file = start_after (outcome (bundle_checks file) tt) file
 
 -- What a step hands out, and what n steps from a byte on hand out, one after another.
 pub record Handed : Type 0 where
-  pub stop : Stop
+  pub stop : Option ℕ
   pub part : List ℕ
 
 abbrev pub past : Handed
-past = record { stop = PastTheEnd; part = [] }
+past = record { stop = None; part = [] }
 
 abbrev pub handed : Stored → Handed
-handed e = record { stop = Number e.stop; part = e.part }
+handed e = record { stop = Some e.stop; part = e.part }
 
 -- Where a reader is after k steps.
 unfoldable pub place_after : List ℕ → (at k : ℕ) → ℕ

@@ -7,13 +7,6 @@ ghost use Rattle.std.specs.Prelude.{◌≡◌};
 ghost use Rattle.bundles.specs.Bundles.{entry_length};
 ghost use Rattle.bundles.specs.Calls.{right_length};
 
-// What a step finds: an entry's stop number, or that no entry is left.
-#[derive(Clone, Copy)]
-pub enum Stop {
-    Number(u32),
-    PastTheEnd,
-}
-
 pub const STOP_BYTES: usize = 2;
 
 // "at most 65,536 bytes"

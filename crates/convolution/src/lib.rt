@@ -12,22 +12,18 @@ ghost use Rattle.convolution.specs.Calls.{convolving};
 
 mod wrapping;
 
-use halved_products::{Begun, convolve_up_to_16};
+use halved_products::convolve_up_to_16;
 use parameters::Parameters;
-use refusals::Answer;
+use refusals::Refusal;
 
 // x × y reduced modulo q, to out: by direct sums up to 16 coefficients, by halving above.
-pub fn convolve(p: Parameters, x: &[i32], y: &[i32], out: &mut [i32]) -> Answer
+pub fn convolve(p: Parameters, x: &[i32], y: &[i32], out: &mut [i32]) -> Result<(), Refusal>
     ensures { Gives (convolving (set_of p) x.now y.now (length out.old)) (number (answered result)) out.old out.new }
 {
     let n = p.n;
     let c = p.c;
     let d = p.d;
-    match convolve_up_to_16(p, x, y, out) {
-        Begun::Passed(formed) => {
-            wrapping::convolve_unless(formed, x, y, n as usize, c, d, out);
-            Answer::Done
-        }
-        Begun::Refused(refusal) => Answer::Refused(refusal),
-    }
+    let formed = convolve_up_to_16(p, x, y, out)?;
+    wrapping::convolve_unless(formed, x, y, n as usize, c, d, out);
+    Ok(())
 }

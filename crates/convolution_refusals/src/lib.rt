@@ -12,35 +12,33 @@ ghost use Rattle.arrays.specs.Conditions.{Modulus};
 ghost use Rattle.convolution_refusals.specs.Checks.{convolving_checks};
 
 use parameters::Parameters;
-use refusals::{Answer, Refusal};
+use refusals::Refusal;
 use set_tests::reduced_modulo_q;
 
 // 7 for all lengths, then 12 for both operands, with a modulus in range and not zero.
-fn operand_refusal(x: &[i32], y: &[i32], room: usize, n: u32, c: i32, d: i32) -> Answer
+fn operand_refusal(x: &[i32], y: &[i32], room: usize, n: u32, c: i32, d: i32) -> Result<(), Refusal>
     requires { Modulus (value c d) }
     ensures { answered result ≡ outcome (convolving_checks n (value c d) x.now y.now room) tt }
 {
     if !arrays::three_full(n, x.len(), y.len(), room) {
-        return Answer::Refused(Refusal::WrongLength);
+        return Err(Refusal::WrongLength);
     }
     if !reduced_modulo_q(x, n, c, d) {
-        return Answer::Refused(Refusal::NotReducedModuloQ);
+        return Err(Refusal::NotReducedModuloQ);
     }
     if !reduced_modulo_q(y, n, c, d) {
-        return Answer::Refused(Refusal::NotReducedModuloQ);
+        return Err(Refusal::NotReducedModuloQ);
     }
-    Answer::Done
+    Ok(())
 }
 
 // Those of the parameter set, 7 for all lengths, then 12 for both operands.
-pub fn convolving_refusal(p: Parameters, x: &[i32], y: &[i32], room: usize) -> Answer
+pub fn convolving_refusal(p: Parameters, x: &[i32], y: &[i32], room: usize) -> Result<(), Refusal>
     ensures { answered result ≡ outcome (parameter_checks (set_of p) ++ convolving_checks p.n (value p.c p.d) x.now y.now room) tt }
 {
     let n = p.n;
     let c = p.c;
     let d = p.d;
-    match p.check() {
-        Answer::Done => operand_refusal(x, y, room, n, c, d),
-        Answer::Refused(refusal) => Answer::Refused(refusal),
-    }
+    p.check()?;
+    operand_refusal(x, y, room, n, c, d)
 }

@@ -35,12 +35,6 @@ pub fn unit(number: usize) -> Pair
     UNITS[k]
 }
 
-#[derive(Clone, Copy)]
-pub enum Reduced {
-    Remainder(Pair),
-    Refused(Refusal),
-}
-
 // A value whose parts need more room.
 #[derive(Clone, Copy)]
 pub struct Wide {
@@ -141,11 +135,11 @@ pub fn value_out_of_range(a: i64, b: i64) -> bool
 }
 
 // One value (a, b) modulo 2: refusal 22, or the remainder.
-pub fn reduce_2(a: i64, b: i64) -> Reduced
+pub fn reduce_2(a: i64, b: i64) -> Result<Pair, Refusal>
     ensures { answered result ≡ reduce2 (value a b) }
 {
     if value_out_of_range(a, b) {
-        return Reduced::Refused(Refusal::ValueOutOfRange);
+        return Err(Refusal::ValueOutOfRange);
     }
-    Reduced::Remainder(remainder_2(a, b))
+    Ok(remainder_2(a, b))
 }

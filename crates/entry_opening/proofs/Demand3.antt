@@ -1,4 +1,5 @@
 -- Demand 3 of bundles: it is that of sealing and opening an array, entry by entry.
+use Rattle.std.specs.Prelude.{Some}
 use mathlib.Core.Path.{◌≡◌, refl, sym, ◌∙◌, ap, subst}
 use mathlib.Core.Bool.{false, ◌&&◌}
 use mathlib.Core.List.{List, [], ◌++◌}
@@ -24,7 +25,6 @@ use Rattle.stop_sets.specs.Stops.{any_twice}
 use Rattle.bundles.specs.Bundles.{longest_bundle, Entry, stops_of, array_of, numbers_of, entry_start, bundle_of, count_of, entries_of}
 use Rattle.bundles.specs.Calls.{arrays_checks, entries_checks, writing_checks, writing_bundle}
 use Rattle.bundles.specs.Steps.{stop_at, part_at}
-use Rattle.bundles.specs.declared.Stop.TheVariants.{Number}
 use Rattle.bundles.proofs.Entries.{stop_is}
 use Rattle.bundles.proofs.Steps.{stop_here}
 use Rattle.bundles.proofs.Counted.{Counted, counted, entry_stands, part_long, array_of_part}
@@ -105,11 +105,11 @@ module _ {p : ParameterSet} {f F2 Fq g h : List ℤ} {es : List Entry} {messages
       place : entry_start p.N k ≡ entry_start (head_of bundle).N k
       place = ap (λ (q : ParameterSet). entry_start q.N k) (sym same_head)
 
-      stop_handed : stop_at bundle (entry_start p.N k) ≡ Number (get_or (stops_of es) k 0)
+      stop_handed : stop_at bundle (entry_start p.N k) ≡ Some (get_or (stops_of es) k 0)
       stop_handed =
           ap (stop_at bundle) place
           ∙ stop_here bundle _ (entry_stands bundle at_place k within)
-          ∙ ap (λ (n : ℕ). Number n) (sym (stop_is bundle k within) ∙ ap (λ (x : List Entry). get_or (stops_of x) k 0) same_entries)
+          ∙ ap (λ (n : ℕ). Some n) (sym (stop_is bundle k within) ∙ ap (λ (x : List Entry). get_or (stops_of x) k 0) same_entries)
 
       part_full : length (part_at bundle (entry_start p.N k)) ≡ 4 * p.N
       part_full = ap (λ (at : ℕ). length (part_at bundle at)) place ∙ part_long bundle at_place k within ∙ ap (λ (q : ParameterSet). 4 * q.N) same_head

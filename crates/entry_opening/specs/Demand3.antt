@@ -1,4 +1,5 @@
 -- Demand 3 of bundles: a bundle that is written of arrays sealed under one accepted key is not refused, and opens entry by entry to exactly the messages sealed.
+use Rattle.std.specs.Prelude.{Some}
 use Rattle.std.specs.Prelude.{◌≡◌, false, List, [], ℕ, ◌*◌, ◌≤◌, ◌<◌, ℤ, length, get_or}
 use Rattle.refusals.specs.Outcomes.{done, Passes}
 use Rattle.parameters.specs.Sets.{ParameterSet}
@@ -11,7 +12,6 @@ use Rattle.bundles.specs.Bundles.{longest_bundle, Entry, stops_of, array_of, num
 use Rattle.bundles.specs.Calls.{bundle_checks, writing_bundle}
 use Rattle.bundles.specs.Promises.{Stops16}
 use Rattle.bundles.specs.Steps.{stop_at, part_at}
-use Rattle.bundles.specs.declared.Stop.TheVariants.{Number}
 use Rattle.entry_opening.specs.Calls.{opening_entry}
 
 -- An array that was sealed of a message, with some φ of its set.
@@ -31,7 +31,7 @@ pub record OpensEntries (p : ParameterSet) (f F2 : List ℤ) (es : List Entry) (
   pub made : Passes (bundle_checks file)
   pub parameters : head_of file ≡ p
   pub count : count_of file ≡ length es
-  pub stop : (k : ℕ) → k < length es → stop_at file (entry_start p.N k) ≡ Number (get_or (stops_of es) k 0)
+  pub stop : (k : ℕ) → k < length es → stop_at file (entry_start p.N k) ≡ Some (get_or (stops_of es) k 0)
   pub opens : (k : ℕ) → k < length es → opening_entry p f F2 (part_at file (entry_start p.N k)) (message_bytes p.N) ≡ done (get_or messages k [])
 
 pub record Demand3 : Type 0 where

@@ -13,15 +13,13 @@ ghost use Rattle.entry_opening.specs.Calls.{opening_entry};
 mod opened;
 
 use parameters::Parameters;
-use refusals::Answer;
+use refusals::Refusal;
 
 // Opens the sealed array that part is, with the private key f and F2. The message goes to message.
-pub fn open_entry(p: Parameters, f: &[i32], f2: &[i32], part: &[u8], message: &mut [u8]) -> Answer
+pub fn open_entry(p: Parameters, f: &[i32], f2: &[i32], part: &[u8], message: &mut [u8]) -> Result<(), Refusal>
     ensures { Gives (opening_entry (set_of p) f.now f2.now part.now (length message.old))
         (number (answered result)) message.old message.new }
 {
-    match p.check() {
-        Answer::Done => opened::open_checked(p, f, f2, part, message),
-        Answer::Refused(refusal) => Answer::Refused(refusal),
-    }
+    p.check()?;
+    opened::open_checked(p, f, f2, part, message)
 }

@@ -12,7 +12,7 @@ ghost use Rattle.files.specs.Files.{numbers_from};
 ghost use Rattle.entry_opening.specs.Calls.{opening_entry};
 
 use parameters::Parameters;
-use refusals::{Answer, Refusal};
+use refusals::Refusal;
 use stored_numbers::read_numbers;
 
 // Opens e, which is overwritten. The first product goes to a lent array.
@@ -45,23 +45,19 @@ fn open_part(
     x: &mut [i32],
     product: &mut [i32],
     message: &mut [u8],
-) -> Answer
+) -> Result<(), Refusal>
     requires { (length part.now ≡ 4 * p.n) × (length x.old ≡ 2 * p.n) × (length product.old ≡ 2 * p.n) }
     ensures { Gives (opening (set_of p) f.now f2.now (numbers_from part.now) (length message.old))
         (number (answered result)) message.old message.new }
 {
     read_numbers(part, x);
-    match unsealing_refusals::opening_refusal(p, f, f2, x, message.len()) {
-        Answer::Done => {
-            open_over(p, f, f2, x, product, message);
-            Answer::Done
-        }
-        Answer::Refused(refusal) => Answer::Refused(refusal),
-    }
+    unsealing_refusals::opening_refusal(p, f, f2, x, message.len())?;
+    open_over(p, f, f2, x, product, message);
+    Ok(())
 }
 
 // With room for two arrays of N up to 128, 2 KiB to clear.
-fn open_few(p: Parameters, f: &[i32], f2: &[i32], part: &[u8], message: &mut [u8]) -> Answer
+fn open_few(p: Parameters, f: &[i32], f2: &[i32], part: &[u8], message: &mut [u8]) -> Result<(), Refusal>
     requires { (p.n ≤ 128) × (length part.now ≡ 4 * p.n) }
     ensures { Gives (opening (set_of p) f.now f2.now (numbers_from part.now) (length message.old))
         (number (answered result)) message.old message.new }
@@ -74,7 +70,7 @@ fn open_few(p: Parameters, f: &[i32], f2: &[i32], part: &[u8], message: &mut [u8
 }
 
 // With room for every N, 16 KiB.
-fn open_many(p: Parameters, f: &[i32], f2: &[i32], part: &[u8], message: &mut [u8]) -> Answer
+fn open_many(p: Parameters, f: &[i32], f2: &[i32], part: &[u8], message: &mut [u8]) -> Result<(), Refusal>
     requires { (p.n ≤ 1024) × (length part.now ≡ 4 * p.n) }
     ensures { Gives (opening (set_of p) f.now f2.now (numbers_from part.now) (length message.old))
         (number (answered result)) message.old message.new }
@@ -93,14 +89,14 @@ pub(crate) fn open_checked(
     f2: &[i32],
     part: &[u8],
     message: &mut [u8],
-) -> Answer
+) -> Result<(), Refusal>
     requires { Passes (parameter_checks (set_of p)) }
     ensures { Gives (opening_entry (set_of p) f.now f2.now part.now (length message.old))
         (number (answered result)) message.old message.new }
 {
     let n = p.n;
     if part.len() != 4 * (n as usize) {
-        return Answer::Refused(Refusal::WrongLength);
+        return Err(Refusal::WrongLength);
     }
     if n <= 128 {
         return open_few(p, f, f2, part, message);

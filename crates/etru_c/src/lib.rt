@@ -28,7 +28,7 @@ ghost use Rattle.opened_arrays.specs.Answers.{length_of, over};
 ghost use Rattle.short_scheme.specs.Calls.{short_sealing, short_opening};
 ghost use Rattle.opening.specs.Program.{line_writing, line_length};
 
-use parameters::{Made, Parameters};
+use parameters::Parameters;
 use placed_units::PlacedUnit;
 
 // The remainder of (a, b) modulo q = (c, d), to ra and rb.
@@ -53,7 +53,7 @@ pub extern "C" fn etru_check_parameters(n: u32, c: i32, d: i32, s: u32, t: u32) 
     ensures { result ≡ number (parameters (set n c d s t)) }
 {
     let numbers = Parameters { n, c, d, s, t };
-    numbers.check().number()
+    status(numbers.check())
 }
 
 // x × y reduced modulo q, to out.
@@ -71,7 +71,7 @@ pub extern "C" fn etru_convolve(
     ensures { Gives (convolving (set n c d s t) x.now y.now (length out.old)) result out.old out.new }
 {
     let p = Parameters { n, c, d, s, t };
-    convolution::convolve(p, x, y, out).number()
+    status(convolution::convolve(p, x, y, out))
 }
 
 // Checks a key. The public key goes to h.
@@ -91,7 +91,7 @@ pub extern "C" fn etru_check_key(
     ensures { Gives (key_check (set n c d s t) f.now f2.now fq.now g.now (length h.old)) result h.old h.new }
 {
     let p = Parameters { n, c, d, s, t };
-    key_check::check_key(p, f, f2, fq, g, h).number()
+    status(key_check::check_key(p, f, f2, fq, g, h))
 }
 
 // Seals a message, to e.
@@ -110,7 +110,7 @@ pub extern "C" fn etru_seal(
     ensures { Gives (sealing (set n c d s t) h.now phi.now message.now (length e.old)) result e.old e.new }
 {
     let p = Parameters { n, c, d, s, t };
-    sealing::seal(p, h, phi, message, e).number()
+    status(sealing::seal(p, h, phi, message, e))
 }
 
 // Seals a message with the ephemeral that a list of places spreads to, to e.
@@ -129,8 +129,7 @@ pub extern "C" fn etru_seal_places(
     ensures { Gives (places_sealing (set n c d s t) h.now places.now message.now (length e.old)) result e.old e.new }
 {
     let p = Parameters { n, c, d, s, t };
-    let answer = place_records::seal_places(p, h, places, message, e);
-    answer.number()
+    status(place_records::seal_places(p, h, places, message, e))
 }
 
 // Spreads a list of places, to phi.
@@ -147,8 +146,7 @@ pub extern "C" fn etru_spread_places(
     ensures { Gives (spreading (set n c d s t) places.now (length phi.old)) result phi.old phi.new }
 {
     let p = Parameters { n, c, d, s, t };
-    let answer = place_records::spread_places(p, places, phi);
-    answer.number()
+    status(place_records::spread_places(p, places, phi))
 }
 
 // Opens a sealed array. The message goes to message.
@@ -167,7 +165,7 @@ pub extern "C" fn etru_open(
     ensures { Gives (opening (set n c d s t) f.now f2.now e.now (length message.old)) result message.old message.new }
 {
     let p = Parameters { n, c, d, s, t };
-    unsealing::open(p, f, f2, e, message).number()
+    status(unsealing::open(p, f, f2, e, message))
 }
 
 // Seals a short message, to e.
@@ -186,7 +184,7 @@ pub extern "C" fn etru_seal_short(
     ensures { Gives (short_sealing (set n c d s t) h.now phi.now message.now (length e.old)) result e.old e.new }
 {
     let p = Parameters { n, c, d, s, t };
-    short_sealing::seal_short(p, h, phi, message, e).number()
+    status(short_sealing::seal_short(p, h, phi, message, e))
 }
 
 // Opens a sealed array as a short message. It goes to the front of message, and its length to used; the bytes behind it are as they came.
@@ -216,7 +214,7 @@ pub extern "C" fn etru_open_short(
 pub extern "C" fn etru_pack(n: u32, message: &[u8], m: &mut [i32]) -> u32
     ensures { Gives (packing n message.now (length m.old)) result m.old m.new }
 {
-    message_packing::pack(n, message, m).number()
+    status(message_packing::pack(n, message, m))
 }
 
 // The message that a polynomial stands for, to message.
@@ -224,7 +222,7 @@ pub extern "C" fn etru_pack(n: u32, message: &[u8], m: &mut [i32]) -> u32
 pub extern "C" fn etru_unpack(n: u32, m: &[i32], message: &mut [u8]) -> u32
     ensures { Gives (unpacking n m.now (length message.old)) result message.old message.new }
 {
-    message_unpacking::unpack(n, m, message).number()
+    status(message_unpacking::unpack(n, m, message))
 }
 
 // The parameters of a file of the wanted kind, from its head alone, to n, c, d, s and t.
@@ -250,7 +248,7 @@ pub extern "C" fn etru_read_head(
 pub extern "C" fn etru_read(kind: u32, file: &[u8], numbers: &mut [i32]) -> u32
     ensures { Gives (reading kind file.now (length numbers.old)) result numbers.old numbers.new }
 {
-    file_reading::read(kind, file, numbers).number()
+    status(file_reading::read(kind, file, numbers))
 }
 
 // A file of this kind, to file. The numbers are its arrays, one after another in stored order.
@@ -268,7 +266,7 @@ pub extern "C" fn etru_write(
     ensures { Gives (writing kind (set n c d s t) numbers.now (length file.old)) result file.old file.new }
 {
     let p = Parameters { n, c, d, s, t };
-    file_writing::write(kind, p, numbers, file).number()
+    status(file_writing::write(kind, p, numbers, file))
 }
 
 // The parameters of a bundle, to n, c, d, s and t, and how many entries it has, to count: they tell what to lend for its entries.
@@ -305,11 +303,11 @@ pub extern "C" fn etru_begin_bundle(file: &[u8], at: &mut usize) -> u32
     let first = start.at;
     let made = start.made;
     match made {
-        Made::Accepted(p) => {
+        Ok(p) => {
             *at = first;
             0
         }
-        Made::Refused(refusal) => refusal.number(),
+        Err(refusal) => refusal.number(),
     }
 }
 
@@ -349,7 +347,7 @@ pub extern "C" fn etru_open_entry(
     ensures { Gives (opening_entry (set n c d s t) f.now f2.now part.now (length message.old)) result message.old message.new }
 {
     let p = Parameters { n, c, d, s, t };
-    entry_opening::open_entry(p, f, f2, part, message).number()
+    status(entry_opening::open_entry(p, f, f2, part, message))
 }
 
 // The stops of a bundle to stops, and its arrays, one after another in stored order, to numbers.
@@ -358,7 +356,7 @@ pub extern "C" fn etru_read_bundle(file: &[u8], stops: &mut [u32], numbers: &mut
     ensures gives { Gives (reading_stops file.now (length stops.old) (length numbers.old)) result stops.old stops.new }
     ensures gives_2 { Gives (reading_numbers file.now (length stops.old) (length numbers.old)) result numbers.old numbers.new }
 {
-    bundle_reading::read_bundle(file, stops, numbers).number()
+    status(bundle_reading::read_bundle(file, stops, numbers))
 }
 
 // A bundle, to file. The numbers are the arrays of its entries, one after another.
@@ -376,7 +374,7 @@ pub extern "C" fn etru_write_bundle(
     ensures { Gives (writing_bundle (set n c d s t) stops.now numbers.now (length file.old)) result file.old file.new }
 {
     let p = Parameters { n, c, d, s, t };
-    bundle_writing::write_bundle(p, stops, numbers, file).number()
+    status(bundle_writing::write_bundle(p, stops, numbers, file))
 }
 
 // The line that the opening program prints for its input, to the front of line, and its length to used. Any input has its line, so 7 for a line that is not lent with 515 bytes is the only refusal.
@@ -385,5 +383,5 @@ pub extern "C" fn etru_open_files(input: &[u8], line: &mut [u8], used: &mut usiz
     ensures gives { Gives (line_writing input.now line.old) result line.old line.new }
     ensures gives_2 { Gives (line_length input.now (length line.old)) result used.old used.new }
 {
-    opening::open_files(input, line, used).number()
+    status(opening::open_files(input, line, used))
 }

@@ -8,9 +8,9 @@
 
 ghost use Rattle.std.specs.Prelude.{◌≡◌, ◌+◌, ◌-◌, ◌≤◌, min, length};
 
-use refusals::Answer;
 use std::io;
 use std::io::{Read, Stdin};
+use refusals::Refusal;
 
 // Two files have at most 16 + 16 × 1,024 and 16 + 4 × 1,024 bytes, 20,512 in all. Of a longer input the first 20,513 bytes give the same line (`LongInputLine` of the crate `opening`), so the rest is read and left.
 fn input_buffer() -> [u8; 20513]
@@ -66,7 +66,7 @@ fn main(rt: HostRuntime) {
     let mut line = line_buffer();
     let mut used = 0;
     // the line has its room, so nothing is refused
-    let _answer: Answer = opening::open_files(&input[..n], &mut line, &mut used);
+    let _answer: Result<(), Refusal> = opening::open_files(&input[..n], &mut line, &mut used);
     // where a write fails, there is nobody to tell
     let _ = rt.write_all(&line[..used]);
 }

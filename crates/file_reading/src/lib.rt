@@ -13,15 +13,13 @@ ghost use Rattle.files.specs.Calls.{reading};
 mod contents;
 mod reading;
 
-use parameters::Made;
-use refusals::Answer;
+use refusals::Refusal;
+
 
 // The arrays of a file of the wanted kind, one after another in stored order, to numbers.
-pub fn read(kind: u32, file: &[u8], numbers: &mut [i32]) -> Answer
+pub fn read(kind: u32, file: &[u8], numbers: &mut [i32]) -> Result<(), Refusal>
     ensures { Gives (reading kind file.now (length numbers.old)) (number (answered result)) numbers.old numbers.new }
 {
-    match head_reading::read_head(kind, file) {
-        Made::Accepted(p) => reading::read_content(kind, p, file, numbers),
-        Made::Refused(refusal) => Answer::Refused(refusal),
-    }
+    let p = head_reading::read_head(kind, file)?;
+    reading::read_content(kind, p, file, numbers)
 }

@@ -9,32 +9,28 @@ use crate::contents::stored_refusal;
 use files::lengths_right;
 use heads::HEAD_BYTES;
 use parameters::Parameters;
-use refusals::{Answer, Refusal};
+use refusals::Refusal;
 use stored_numbers::read_numbers;
 
 // The arrays are judged one at a time in 8 KiB of stack, since a refusal leaves the lent output as it came.
-fn reading_refusal(kind: u32, p: Parameters, file: &[u8], room: usize) -> Answer
+fn reading_refusal(kind: u32, p: Parameters, file: &[u8], room: usize) -> Result<(), Refusal>
     requires { Passes (parameter_checks (set_of p)) }
     ensures { answered result ≡ outcome (stored_checks kind (set_of p) file.now room) tt }
 {
     let n = p.n;
     if !lengths_right(kind, n, room, file.len()) {
-        return Answer::Refused(Refusal::WrongLength);
+        return Err(Refusal::WrongLength);
     }
     let width = 2 * (n as usize);
     let mut x = arrays::zeros();
     stored_refusal(kind, p, &file[HEAD_BYTES..], &mut x[..width])
 }
 
-pub(crate) fn read_content(kind: u32, p: Parameters, file: &[u8], numbers: &mut [i32]) -> Answer
+pub(crate) fn read_content(kind: u32, p: Parameters, file: &[u8], numbers: &mut [i32]) -> Result<(), Refusal>
     requires { Passes (parameter_checks (set_of p)) }
     ensures { Gives (reading_content kind (set_of p) file.now (length numbers.old)) (number (answered result)) numbers.old numbers.new }
 {
-    match reading_refusal(kind, p, file, numbers.len()) {
-        Answer::Done => {
-            read_numbers(&file[HEAD_BYTES..], numbers);
-            Answer::Done
-        }
-        Answer::Refused(refusal) => Answer::Refused(refusal),
-    }
+    reading_refusal(kind, p, file, numbers.len())?;
+    read_numbers(&file[HEAD_BYTES..], numbers);
+    Ok(())
 }

@@ -11,10 +11,10 @@ ghost use Rattle.files.specs.Calls.{set_checks};
 
 use heads::kinds::{array_count, array_set};
 use parameters::Parameters;
-use refusals::Answer;
+use refusals::Refusal;
 
 // Judges array k: each array is the next 2N numbers.
-fn array_refusal(kind: u32, p: Parameters, k: usize, numbers: &[i32]) -> Answer
+fn array_refusal(kind: u32, p: Parameters, k: usize, numbers: &[i32]) -> Result<(), Refusal>
     requires { (k < length (arrays_of kind)) × (length numbers.now ≡ file_numbers kind p.n) }
     ensures { answered result ≡ array_check (set_of p) (get_or (arrays_of kind) k ReducedModuloQ) (array_at (set_of p) k numbers.now) }
 {
@@ -25,20 +25,15 @@ fn array_refusal(kind: u32, p: Parameters, k: usize, numbers: &[i32]) -> Answer
     array_sets::check_array(p, array_set(kind, k), &numbers[from..to])
 }
 
-pub(crate) fn sets_refusal(kind: u32, p: Parameters, numbers: &[i32]) -> Answer
+pub(crate) fn sets_refusal(kind: u32, p: Parameters, numbers: &[i32]) -> Result<(), Refusal>
     requires { Passes (parameter_checks (set_of p)) × (length numbers.now ≡ file_numbers kind p.n) }
     ensures { answered result ≡ outcome (set_checks (set_of p) (arrays_of kind) numbers.now) tt }
 {
     let count = array_count(kind);
     let mut k = 0;
     while k < count {
-        match array_refusal(kind, p, k, numbers) {
-            Answer::Done => {}
-            Answer::Refused(refusal) => {
-                return Answer::Refused(refusal);
-            }
-        }
+        array_refusal(kind, p, k, numbers)?;
         k += 1;
     }
-    Answer::Done
+    Ok(())
 }

@@ -16,17 +16,15 @@ mod writing;
 
 use heads::kinds;
 use parameters::Parameters;
-use refusals::{Answer, Refusal};
+use refusals::Refusal;
 
 // A file of this kind, to file. The numbers are its arrays, one after another in stored order.
-pub fn write(kind: u32, p: Parameters, numbers: &[i32], file: &mut [u8]) -> Answer
+pub fn write(kind: u32, p: Parameters, numbers: &[i32], file: &mut [u8]) -> Result<(), Refusal>
     ensures { Gives (writing kind (set_of p) numbers.now (length file.old)) (number (answered result)) file.old file.new }
 {
     if !kinds::known_kind(kind) {
-        return Answer::Refused(Refusal::KindNotWanted);
+        return Err(Refusal::KindNotWanted);
     }
-    match p.check() {
-        Answer::Done => writing::write_content(kind, p, numbers, file),
-        Answer::Refused(refusal) => Answer::Refused(refusal),
-    }
+    p.check()?;
+    writing::write_content(kind, p, numbers, file)
 }

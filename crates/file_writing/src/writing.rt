@@ -14,16 +14,16 @@ use files::lengths_right;
 use head_writing::write_head;
 use heads::HEAD_BYTES;
 use parameters::Parameters;
-use refusals::{Answer, Refusal};
+use refusals::Refusal;
 use stored_numbers::write_numbers;
 
-fn writing_refusal(kind: u32, p: Parameters, numbers: &[i32], room: usize) -> Answer
+fn writing_refusal(kind: u32, p: Parameters, numbers: &[i32], room: usize) -> Result<(), Refusal>
     requires { Passes (parameter_checks (set_of p)) }
     ensures { answered result ≡ outcome (given_checks kind (set_of p) numbers.now room) tt }
 {
     let n = p.n;
     if !lengths_right(kind, n, numbers.len(), room) {
-        return Answer::Refused(Refusal::WrongLength);
+        return Err(Refusal::WrongLength);
     }
     sets_refusal(kind, p, numbers)
 }
@@ -34,19 +34,15 @@ fn write_file(kind: u32, p: Parameters, numbers: &[i32], file: &mut [u8])
     ensures { file.new ≡ file_of kind (set_of p) numbers.now }
 {
     // Nothing is refused: the kind, the parameters and the lengths have passed.
-    let _answer: Answer = write_head(kind, p, file);
+    let _answer: Result<(), Refusal> = write_head(kind, p, file);
     write_numbers(numbers, &mut file[HEAD_BYTES..]);
 }
 
-pub(crate) fn write_content(kind: u32, p: Parameters, numbers: &[i32], file: &mut [u8]) -> Answer
+pub(crate) fn write_content(kind: u32, p: Parameters, numbers: &[i32], file: &mut [u8]) -> Result<(), Refusal>
     requires { T (known_kind kind) × Passes (parameter_checks (set_of p)) }
     ensures { Gives (writing_content kind (set_of p) numbers.now (length file.old)) (number (answered result)) file.old file.new }
 {
-    match writing_refusal(kind, p, numbers, file.len()) {
-        Answer::Done => {
-            write_file(kind, p, numbers, file);
-            Answer::Done
-        }
-        Answer::Refused(refusal) => Answer::Refused(refusal),
-    }
+    writing_refusal(kind, p, numbers, file.len())?;
+    write_file(kind, p, numbers, file);
+    Ok(())
 }

@@ -1,4 +1,6 @@
 -- What the calls of products by halving give.
+use Rattle.std.specs.Prelude.{Err, Ok, Result}
+use Rattle.refusals.specs.declared.Refusal.{Refusal}
 use Rattle.std.specs.Prelude.{◌≡◌, Bool, true, false, cond, List, ◌++◌, ℕ, ◌*◌, ◌<◌, leb, ℤ}
 use Rattle.refusals.specs.Outcomes.{Outcome, done, refused, outcome}
 use Rattle.refusals.specs.Numbers.{number_of}
@@ -6,8 +8,6 @@ use Rattle.parameters.specs.Sets.{ParameterSet, parameter_checks}
 use Rattle.polynomials.specs.Polynomials.{coefficient}
 use Rattle.halving.specs.Products.{product}
 use Rattle.convolution_refusals.specs.Checks.{convolving_checks}
-use Rattle.halved_products.specs.declared.Begun.{Begun}
-use Rattle.halved_products.specs.declared.Begun.TheVariants.{Passed, Refused}
 
 -- A call that answers whether it could, and has left the 2N coefficients of the product at the start of an output that held `old` if so, and `old` if not. All that stands behind the product is room, and is left free.
 abbrev pub Multiplies : Bool → ℕ → (x y : List ℤ) → Bool → (old new : List ℤ) → Type 0
@@ -19,9 +19,9 @@ unfoldable pub beginning : ParameterSet → (x y : List ℤ) → ℕ → Outcome
 beginning p x y room = outcome (parameter_checks p ++ convolving_checks p.N p.q x y room) (leb p.N 16)
 
 -- The answer of that call, as an outcome.
-abbrev pub answered : Begun → Outcome Bool
-answered (Passed formed) = done formed
-answered (Refused r) = refused (number_of r)
+abbrev pub answered : Result Bool Refusal → Outcome Bool
+answered (Ok formed) = done formed
+answered (Err r) = refused (number_of r)
 
 -- What an output holds then, that held `old` before: the value where it is formed, and `old` otherwise.
 abbrev pub left : {A : Type 0} → Outcome Bool → A → A → A

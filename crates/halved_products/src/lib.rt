@@ -18,7 +18,7 @@ mod halves;
 
 use convolution_refusals::convolving_refusal;
 use parameters::Parameters;
-use refusals::{Answer, Refusal};
+use refusals::Refusal;
 
 // The product of two arrays of n coefficients, before the wrap: 2n coefficients at the start of w, which has room for the smaller products behind them.
 // Answers whether it was formed; w is as it came otherwise, and x and y are so in either case. What stands behind the product afterwards is left free.
@@ -33,23 +33,14 @@ pub fn multiply_halved(x: &mut [i32], y: &mut [i32], n: usize, w: &mut [i64]) ->
     true
 }
 
-// Where nothing is refused, whether the result was formed.
-#[derive(Clone, Copy)]
-pub enum Begun {
-    Passed(bool),
-    Refused(Refusal),
-}
-
 // Convolution modulo q as far as direct sums go: its refusals for every N, and x × y reduced, to out, where N is at most 16. Above that it is not formed, and out is as it came.
-pub fn convolve_up_to_16(p: Parameters, x: &[i32], y: &[i32], out: &mut [i32]) -> Begun
+pub fn convolve_up_to_16(p: Parameters, x: &[i32], y: &[i32], out: &mut [i32]) -> Result<bool, Refusal>
     ensures { Begins (beginning (set_of p) x.now y.now (length out.old))
         (array p.n (λ i. mod_q (value p.c p.d) (convolution p.n (coefficient x.now) (coefficient y.now) i))) (answered result) out.old out.new }
 {
     let n = p.n;
     let c = p.c;
     let d = p.d;
-    match convolving_refusal(p, x, y, out.len()) {
-        Answer::Done => Begun::Passed(few::convolve_few(x, y, n as usize, c, d, out)),
-        Answer::Refused(refusal) => Begun::Refused(refusal),
-    }
+    convolving_refusal(p, x, y, out.len())?;
+    Ok(few::convolve_few(x, y, n as usize, c, d, out))
 }

@@ -10,15 +10,14 @@ ghost use Rattle.head_reading.specs.Calls.{reading_head};
 mod bytes;
 mod reading;
 
-use parameters::Made;
-use refusals::Answer;
+use refusals::Refusal;
+use parameters::Parameters;
+
 
 // The parameters of a file of the wanted kind, from its head alone: they tell how long the file is and how many numbers it holds.
-pub fn read_head(kind: u32, file: &[u8]) -> Made
+pub fn read_head(kind: u32, file: &[u8]) -> Result<Parameters, Refusal>
     ensures { made result ≡ reading_head kind file.now }
 {
-    match reading::head_refusal(kind, file) {
-        Answer::Done => reading::head_parameters(file),
-        Answer::Refused(refusal) => Made::Refused(refusal),
-    }
+    reading::head_refusal(kind, file)?;
+    reading::head_parameters(file)
 }

@@ -11,8 +11,8 @@ use crate::bytes::signed_at;
 use heads::bytes::unsigned_at;
 use heads::kinds::known_kind;
 use heads::{HEAD_BYTES, VERSION};
-use parameters::{Made, Parameters};
-use refusals::{Answer, Refusal};
+use parameters::Parameters;
+use refusals::Refusal;
 
 fn marked_eiz(file: &[u8]) -> bool
     requires { head_length ≤ length file.now }
@@ -43,25 +43,25 @@ fn kind_wanted(kind: u32, file: &[u8]) -> bool
     false
 }
 
-pub(crate) fn head_refusal(kind: u32, file: &[u8]) -> Answer
+pub(crate) fn head_refusal(kind: u32, file: &[u8]) -> Result<(), Refusal>
     ensures { answered result ≡ outcome (head_checks kind file.now) tt }
 {
     if file.len() < HEAD_BYTES {
-        return Answer::Refused(Refusal::HeadTooShort);
+        return Err(Refusal::HeadTooShort);
     }
     if !marked_eiz(file) {
-        return Answer::Refused(Refusal::MarkNotEiz);
+        return Err(Refusal::MarkNotEiz);
     }
     if !version_one(file) {
-        return Answer::Refused(Refusal::VersionNotOne);
+        return Err(Refusal::VersionNotOne);
     }
     if !kind_wanted(kind, file) {
-        return Answer::Refused(Refusal::KindNotWanted);
+        return Err(Refusal::KindNotWanted);
     }
-    Answer::Done
+    Ok(())
 }
 
-pub(crate) fn head_parameters(file: &[u8]) -> Made
+pub(crate) fn head_parameters(file: &[u8]) -> Result<Parameters, Refusal>
     requires { head_length ≤ length file.now }
     ensures { made result ≡ parameters (head_of file.now) }
 {

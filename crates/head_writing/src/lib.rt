@@ -11,17 +11,13 @@ ghost use Rattle.head_writing.specs.Calls.{writing_head};
 mod writing;
 
 use parameters::Parameters;
-use refusals::Answer;
+use refusals::Refusal;
 
 // The head of a file of this kind, to the front of file. What stands behind it is left as it came.
-pub fn write_head(kind: u32, p: Parameters, file: &mut [u8]) -> Answer
+pub fn write_head(kind: u32, p: Parameters, file: &mut [u8]) -> Result<(), Refusal>
     ensures { Gives (writing_head kind (set_of p) file.old) (number (answered result)) file.old file.new }
 {
-    match writing::writing_refusal(kind, p, file.len()) {
-        Answer::Done => {
-            writing::write_bytes(kind, p, file);
-            Answer::Done
-        }
-        Answer::Refused(refusal) => Answer::Refused(refusal),
-    }
+    writing::writing_refusal(kind, p, file.len())?;
+    writing::write_bytes(kind, p, file);
+    Ok(())
 }

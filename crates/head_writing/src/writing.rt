@@ -12,23 +12,19 @@ use heads::bytes::bits_of;
 use heads::kinds::known_kind;
 use heads::{HEAD_BYTES, VERSION};
 use parameters::Parameters;
-use refusals::{Answer, Refusal};
+use refusals::Refusal;
 
-pub(crate) fn writing_refusal(kind: u32, p: Parameters, room: usize) -> Answer
+pub(crate) fn writing_refusal(kind: u32, p: Parameters, room: usize) -> Result<(), Refusal>
     ensures { answered result ≡ outcome (head_writing_checks kind (set_of p) room) tt }
 {
     if !known_kind(kind) {
-        return Answer::Refused(Refusal::KindNotWanted);
+        return Err(Refusal::KindNotWanted);
     }
-    match p.check() {
-        Answer::Done => {
-            if room < HEAD_BYTES {
-                return Answer::Refused(Refusal::WrongLength);
-            }
-            Answer::Done
-        }
-        Answer::Refused(refusal) => Answer::Refused(refusal),
+    p.check()?;
+    if room < HEAD_BYTES {
+    return Err(Refusal::WrongLength);
     }
+    Ok(())
 }
 
 // A big-endian 16-bit number, at byte k.

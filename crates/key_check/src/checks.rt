@@ -8,7 +8,7 @@ ghost use Rattle.etru.specs.Calls.{key_checks};
 use crate::inverses::inverse_refusal;
 use key_check_refusals::key_array_refusal;
 use parameters::Parameters;
-use refusals::Answer;
+use refusals::Refusal;
 
 pub(crate) fn key_refusal(
     p: Parameters,
@@ -17,11 +17,9 @@ pub(crate) fn key_refusal(
     fq: &[i32],
     g: &[i32],
     room: usize,
-) -> Answer
+) -> Result<(), Refusal>
     ensures { answered result ≡ outcome (parameter_checks (set_of p) ++ key_checks (set_of p) f.now f2.now fq.now g.now room) tt }
 {
-    match key_array_refusal(p, f, f2, fq, g, room) {
-        Answer::Done => inverse_refusal(p, f, f2, fq),
-        Answer::Refused(refusal) => Answer::Refused(refusal),
-    }
+    key_array_refusal(p, f, f2, fq, g, room)?;
+    inverse_refusal(p, f, f2, fq)
 }

@@ -9,7 +9,7 @@ ghost use Rattle.etru.specs.Calls.{inverse_checks};
 ghost use Rattle.key_check.specs.Conditions.{KeyArrays};
 
 use parameters::Parameters;
-use refusals::{Answer, Refusal};
+use refusals::Refusal;
 
 // The first part of coefficient i of 1; the second is 0.
 fn one_at(i: usize) -> i64
@@ -44,7 +44,7 @@ fn inverse_refusal_with(
     f2: &[i32],
     fq: &[i32],
     product: &mut [i32],
-) -> Answer
+) -> Result<(), Refusal>
     requires { KeyArrays (set_of p) f.now f2.now fq.now × (length product.old ≡ 2 * p.n) }
     ensures { answered result ≡ outcome (inverse_checks (set_of p) f.now f2.now fq.now) tt }
 {
@@ -53,17 +53,17 @@ fn inverse_refusal_with(
     let d = p.d;
     products::multiply_units_modulo_2(n, f, f2, product);
     if !is_one(product, n as usize) {
-        return Answer::Refused(Refusal::NotInverseModulo2);
+        return Err(Refusal::NotInverseModulo2);
     }
     products::multiply_units_modulo_q(n, c, d, f, fq, product);
     if !is_one(product, n as usize) {
-        return Answer::Refused(Refusal::NotInverseModuloQ);
+        return Err(Refusal::NotInverseModuloQ);
     }
-    Answer::Done
+    Ok(())
 }
 
 // Refusals 13 and 14. The product takes 8 KiB of stack.
-pub(crate) fn inverse_refusal(p: Parameters, f: &[i32], f2: &[i32], fq: &[i32]) -> Answer
+pub(crate) fn inverse_refusal(p: Parameters, f: &[i32], f2: &[i32], fq: &[i32]) -> Result<(), Refusal>
     requires { KeyArrays (set_of p) f.now f2.now fq.now }
     ensures { answered result ≡ outcome (inverse_checks (set_of p) f.now f2.now fq.now) tt }
 {

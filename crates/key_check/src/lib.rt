@@ -16,7 +16,7 @@ mod inverses;
 mod public_keys;
 
 use parameters::Parameters;
-use refusals::Answer;
+use refusals::Refusal;
 
 // Checks a key. The public key, Fq × g reduced modulo q, goes to h.
 pub fn check_key(
@@ -26,15 +26,11 @@ pub fn check_key(
     fq: &[i32],
     g: &[i32],
     h: &mut [i32],
-) -> Answer
+) -> Result<(), Refusal>
     ensures { Gives (key_check (set_of p) f.now f2.now fq.now g.now (length h.old))
         (number (answered result)) h.old h.new }
 {
-    match checks::key_refusal(p, f, f2, fq, g, h.len()) {
-        Answer::Done => {
-            public_keys::write_public_key(p, f, f2, fq, g, h);
-            Answer::Done
-        }
-        Answer::Refused(refusal) => Answer::Refused(refusal),
-    }
+    checks::key_refusal(p, f, f2, fq, g, h.len())?;
+    public_keys::write_public_key(p, f, f2, fq, g, h);
+    Ok(())
 }

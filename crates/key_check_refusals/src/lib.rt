@@ -13,7 +13,7 @@ ghost use Rattle.etru.specs.Calls.{key_array_checks};
 use array_sets::{ArraySet, check_array};
 use arrays::three_full;
 use parameters::Parameters;
-use refusals::{Answer, Refusal};
+use refusals::Refusal;
 
 fn five_full(n: u32, x: usize, y: usize, z: usize, u: usize, v: usize) -> bool
     ensures { result ≡ (full n x && (full n y && (full n z && (full n u && full n v)))) }
@@ -35,15 +35,15 @@ pub fn key_array_refusal(
     fq: &[i32],
     g: &[i32],
     room: usize,
-) -> Answer
+) -> Result<(), Refusal>
     ensures { answered result ≡ outcome (parameter_checks (set_of p) ++ key_array_checks (set_of p) f.now f2.now fq.now g.now room) tt }
 {
     let n = p.n;
     let lengths = five_full(n, f.len(), f2.len(), fq.len(), g.len(), room);
-    p.check()
-        .and(Refusal::WrongLength.when(!lengths))
-        .and(check_array(p, ArraySet::F, f))
-        .and(check_array(p, ArraySet::ReducedModulo2, f2))
-        .and(check_array(p, ArraySet::ReducedModuloQ, fq))
-        .and(check_array(p, ArraySet::G, g))
+    p.check()?;
+    Refusal::WrongLength.when(!lengths)?;
+    check_array(p, ArraySet::F, f)?;
+    check_array(p, ArraySet::ReducedModulo2, f2)?;
+    check_array(p, ArraySet::ReducedModuloQ, fq)?;
+    check_array(p, ArraySet::G, g)
 }

@@ -13,22 +13,22 @@ ghost use Rattle.message_packing.specs.Calls.{packing_checks, packing};
 use packing::lengths::message_and_array_full;
 use packing::{pair_of, spare_bit_set};
 use parameters::Parameters;
-use refusals::{Answer, Refusal};
+use refusals::Refusal;
 
 // The refusals of packing, in document 01's order.
-fn packing_refusal(n: u32, message: &[u8], room: usize) -> Answer
+fn packing_refusal(n: u32, message: &[u8], room: usize) -> Result<(), Refusal>
     ensures { answered result ≡ outcome (packing_checks n message.now room) tt }
 {
     if parameters::out_of_range(n, Parameters::MIN_N, Parameters::MAX_N) {
-        return Answer::Refused(Refusal::CoefficientCountOutOfRange);
+        return Err(Refusal::CoefficientCountOutOfRange);
     }
     if !message_and_array_full(n, message.len(), room) {
-        return Answer::Refused(Refusal::WrongLength);
+        return Err(Refusal::WrongLength);
     }
     if spare_bit_set(n, message) {
-        return Answer::Refused(Refusal::SpareBitSet);
+        return Err(Refusal::SpareBitSet);
     }
-    Answer::Done
+    Ok(())
 }
 
 fn pack_into(n: usize, message: &[u8], m: &mut [i32])
@@ -47,14 +47,10 @@ fn pack_into(n: usize, message: &[u8], m: &mut [i32])
 }
 
 // The polynomial of N coefficients that a message stands for, to m.
-pub fn pack(n: u32, message: &[u8], m: &mut [i32]) -> Answer
+pub fn pack(n: u32, message: &[u8], m: &mut [i32]) -> Result<(), Refusal>
     ensures { Gives (packing n message.now (length m.old)) (number (answered result)) m.old m.new }
 {
-    match packing_refusal(n, message, m.len()) {
-        Answer::Done => {
-            pack_into(n as usize, message, m);
-            Answer::Done
-        }
-        Answer::Refused(refusal) => Answer::Refused(refusal),
-    }
+    packing_refusal(n, message, m.len())?;
+    pack_into(n as usize, message, m);
+    Ok(())
 }

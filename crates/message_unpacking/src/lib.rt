@@ -12,33 +12,29 @@ mod messages;
 
 use packing::lengths::message_and_array_full;
 use parameters::Parameters;
-use refusals::{Answer, Refusal};
+use refusals::Refusal;
 
 // The refusals of unpacking, in document 01's order.
-fn unpacking_refusal(n: u32, m: &[i32], room: usize) -> Answer
+fn unpacking_refusal(n: u32, m: &[i32], room: usize) -> Result<(), Refusal>
     ensures { answered result ≡ outcome (unpacking_checks n m.now room) tt }
 {
     if parameters::out_of_range(n, Parameters::MIN_N, Parameters::MAX_N) {
-        return Answer::Refused(Refusal::CoefficientCountOutOfRange);
+        return Err(Refusal::CoefficientCountOutOfRange);
     }
     if !message_and_array_full(n, room, m.len()) {
-        return Answer::Refused(Refusal::WrongLength);
+        return Err(Refusal::WrongLength);
     }
     if !set_tests::reduced_modulo_2(m, n) {
-        return Answer::Refused(Refusal::NotReducedModulo2);
+        return Err(Refusal::NotReducedModulo2);
     }
-    Answer::Done
+    Ok(())
 }
 
 // The message that a polynomial of N coefficients stands for, to message.
-pub fn unpack(n: u32, m: &[i32], message: &mut [u8]) -> Answer
+pub fn unpack(n: u32, m: &[i32], message: &mut [u8]) -> Result<(), Refusal>
     ensures { Gives (unpacking n m.now (length message.old)) (number (answered result)) message.old message.new }
 {
-    match unpacking_refusal(n, m, message.len()) {
-        Answer::Done => {
-            messages::unpack_into(n as usize, m, message);
-            Answer::Done
-        }
-        Answer::Refused(refusal) => Answer::Refused(refusal),
-    }
+    unpacking_refusal(n, m, message.len())?;
+    messages::unpack_into(n as usize, m, message);
+    Ok(())
 }

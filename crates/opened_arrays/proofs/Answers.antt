@@ -1,4 +1,5 @@
 -- What a call gives that opens to a message.
+use Rattle.std.specs.Prelude.{Err, Ok, Result}
 use mathlib.Core.Path.{◌≡◌, refl, ◌∙◌, ap}
 use mathlib.Core.List.{List, ◌++◌}
 use Prim.Native.Nat.{ℕ}
@@ -9,18 +10,16 @@ use Rattle.refusals.specs.declared.Refusal.{Refusal}
 use Rattle.refusals.proofs.Checks.{done_as_written}
 use Rattle.parameters.specs.Sets.{ParameterSet, parameter_checks}
 use Rattle.etru.specs.Calls.{opening_checks, opening}
-use Rattle.opened_arrays.specs.declared.Opened.{Opened}
-use Rattle.opened_arrays.specs.declared.Opened.TheVariants as opened
 use Rattle.opened_arrays.specs.Answers.{length_of, over, GivesMessage}
 
 -- by an outcome that is equal to its own
-pub gives_as : {o o' : Outcome (List ℕ)} {r : Opened} {old new : List ℕ} → o ≡ o' → GivesMessage o r old new → GivesMessage o' r old new
+pub gives_as : {o o' : Outcome (List ℕ)} {r : (Result ℕ Refusal)} {old new : List ℕ} → o ≡ o' → GivesMessage o r old new → GivesMessage o' r old new
 gives_as {old = old} e g = record {
   answer = g.answer ∙ ap length_of e;
   left = g.left ∙ ap (λ (x : Outcome (List ℕ)). over x old) e;
 }
 
-pub gives_refusal : {o : Outcome (List ℕ)} {r : Refusal} {old : List ℕ} → refused (number_of r) ≡ o → GivesMessage o (opened.Refused r) old old
+pub gives_refusal : {o : Outcome (List ℕ)} {r : Refusal} {old : List ℕ} → refused (number_of r) ≡ o → GivesMessage o (Err r) old old
 gives_refusal e = gives_as e (record { answer = refl; left = refl })
 
 -- what opening wrote, where its number is 0

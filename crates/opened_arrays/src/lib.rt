@@ -13,14 +13,7 @@ ghost use Rattle.opened_arrays.specs.Openings.{opening_arrays, opening_with};
 
 use parameter_comparison::same_parameters;
 use parameters::Parameters;
-use refusals::{Answer, Refusal};
-
-// A message of so many bytes, or the first refusal.
-#[derive(Clone, Copy)]
-pub enum Opened {
-    Message(usize),
-    Refused(Refusal),
-}
+use refusals::Refusal;
 
 pub fn least(x: usize, y: usize) -> usize
     ensures { result ≡ min x y }
@@ -32,20 +25,18 @@ pub fn least(x: usize, y: usize) -> usize
 }
 
 // The message goes to the front of a lent one. Only an N that is refused has a longer one.
-fn open_message(p: Parameters, f: &[i32], f2: &[i32], e: &[i32], message: &mut [u8]) -> Opened
+fn open_message(p: Parameters, f: &[i32], f2: &[i32], e: &[i32], message: &mut [u8]) -> Result<usize, Refusal>
     requires { length message.old ≡ 256 }
     ensures { GivesMessage (opening (set_of p) f.now f2.now e.now (message_bytes p.n)) result message.old message.new }
 {
     let n = p.n;
     let k = least(packing::message_bytes(n), 256);
-    match unsealing::open(p, f, f2, e, &mut message[..k]) {
-        Answer::Done => Opened::Message(k),
-        Answer::Refused(refusal) => Opened::Refused(refusal),
-    }
+    unsealing::open(p, f, f2, e, &mut message[..k])?;
+    Ok(k)
 }
 
 // The arrays are one after another. Where the numbers end first, an array is too short, and opening refuses it.
-fn open_arrays(p: Parameters, numbers: &[i32], message: &mut [u8]) -> Opened
+fn open_arrays(p: Parameters, numbers: &[i32], message: &mut [u8]) -> Result<usize, Refusal>
     requires { length message.old ≡ 256 }
     ensures { GivesMessage (opening_arrays (set_of p) numbers.now) result message.old message.new }
 {
@@ -63,18 +54,16 @@ fn open_arrays(p: Parameters, numbers: &[i32], message: &mut [u8]) -> Opened
 // Numbers beyond the three arrays play no part. The message goes to the front of the lent bytes, which have room for the longest one. The bytes behind it, and all of them after a refusal, are as they came.
 pub fn open_pair(
     p: Parameters,
-    key: Answer,
+    key: Result<(), Refusal>,
     sealed: Parameters,
     numbers: &[i32],
     message: &mut [u8; 256],
-) -> Opened
+) -> Result<usize, Refusal>
     ensures { GivesMessage (opening_with (set_of p) (set_of sealed) (answered key) numbers.now) result message.old message.new }
 {
     if !same_parameters(p, sealed) {
-        return Opened::Refused(Refusal::ParametersDiffer);
+        return Err(Refusal::ParametersDiffer);
     }
-    match key {
-        Answer::Done => open_arrays(p, numbers, message),
-        Answer::Refused(refusal) => Opened::Refused(refusal),
-    }
+    key?;
+    open_arrays(p, numbers, message)
 }

@@ -1,4 +1,5 @@
 -- A file that the program reads, by what reading its head and reading all of it answer.
+use Rattle.std.specs.Prelude.{Err, Ok, Result}
 use mathlib.Core.Path.{◌≡◌}
 use mathlib.Core.List.{List, [], ◌∷◌, ◌++◌, append_assoc}
 use Prim.Native.Nat.{ℕ, ◌≤◌}
@@ -7,8 +8,6 @@ use lib.IntN.{ℤ}
 use lib.ListN.{length}
 use Rattle.refusals.specs.Outcomes.{done, refused, outcome, number, written, Passes}
 use Rattle.refusals.specs.Numbers.{number_of, answered}
-use Rattle.refusals.specs.declared.Answer.{Answer}
-use Rattle.refusals.specs.declared.Answer.TheVariants.{Done, Refused}
 use Rattle.refusals.specs.declared.Refusal.{Refusal}
 use Rattle.refusals.proofs.Checks.{positive, done_as_written, refused_by_number, refused_plain, refused_first, done_all, done_parts}
 use Rattle.refusals.proofs.Numbers.{number_positive}
@@ -83,16 +82,16 @@ module _ (kind : ℕ) (file : List ℕ) (p : ParameterSet) (head : reading_head 
       }
 
   -- what `read` answered
-  module _ (old : List ℤ) (answer : Answer) (says : number (answered answer) ≡ number (reading kind file (length old))) where
-    number_is : (a : Answer) → answer ≡ a → number (reading kind file (length old)) ≡ number (answered a)
+  module _ (old : List ℤ) (answer : Result (Unit {0}) Refusal) (says : number (answered answer) ≡ number (reading kind file (length old))) where
+    number_is : (a : Result (Unit {0}) Refusal) → answer ≡ a → number (reading kind file (length old)) ≡ number (answered a)
     number_is a e = cc
 
-    pub file_read : (new : List ℤ) → answer ≡ Done → new ≡ written (reading kind file (length old)) old → Read kind p file new
+    pub file_read : (new : List ℤ) → answer ≡ (Ok tt) → new ≡ written (reading kind file (length old)) old → Read kind p file new
     unfolding reading
-    file_read new e w = read_done (length old) new (done_as_written (reading_checks kind file (length old)) (numbers_of file) old new (positive_file kind file (length old)) (number_is Done e) w)
+    file_read new e w = read_done (length old) new (done_as_written (reading_checks kind file (length old)) (numbers_of file) old new (positive_file kind file (length old)) (number_is (Ok tt) e) w)
 
-    pub file_refused : length old ≡ file_numbers kind p.N → (r : Refusal) → answer ≡ Refused r → outcome (file_checks kind file) (tt {0}) ≡ refused (number_of r)
+    pub file_refused : length old ≡ file_numbers kind p.N → (r : Refusal) → answer ≡ Err r → outcome (file_checks kind file) (tt {0}) ≡ refused (number_of r)
     unfolding reading file_checks
     file_refused room r e =
-        let f = refused_plain (reading_checks kind file (length old)) (numbers_of file) (number_of r) (number_positive r) (refused_by_number _ (number_of r) (number_positive r) (number_is (Refused r) e)) in
+        let f = refused_plain (reading_checks kind file (length old)) (numbers_of file) (number_of r) (number_positive r) (refused_by_number _ (number_of r) (number_positive r) (number_is (Err r) e)) in
         rw (room, ← head_is) at f

@@ -1,4 +1,6 @@
 -- The key of a private file that is read: its arrays are in their sets, so the key check refuses by 13 and 14 alone, and opening refuses nothing.
+use Rattle.std.specs.Prelude.{Result}
+use Rattle.refusals.specs.declared.Refusal.{Refusal}
 use mathlib.Core.Path.{◌≡◌, refl, sym, ◌∙◌, ap, ap₂, subst}
 use mathlib.Core.Bool.{Bool, true, false, not, ◌&&◌}
 use mathlib.Core.List.{List, [], ◌∷◌}
@@ -12,7 +14,6 @@ use mir.Facts.{and_yes, yes_and, yes_eqb}
 use Rattle.integers.proofs.Tests.{equal_4}
 use Rattle.refusals.specs.Outcomes.{Check, Outcome, done, outcome, first, number, ◌if◌}
 use Rattle.refusals.specs.Numbers.{answered}
-use Rattle.refusals.specs.declared.Answer.{Answer}
 use Rattle.refusals.proofs.Checks.{positive, same_number, passed_all, holds_passed, fails_refused, none_left, done_holds, first_of, first_done}
 use Rattle.refusals.proofs.Numbers.{answer_by_number}
 use Rattle.eisenstein.specs.Values.{ℤ[ω], same}
@@ -91,7 +92,7 @@ module _ (p : ParameterSet) (numbers : List ℤ) (key : KeyRead p numbers) where
       ∙ passed_all four (inverse_checks p numbers) h four_passed
 
   -- what the key check of the numbers answered
-  pub key_answered : (a : Answer) → number (answered a) ≡ number (stored_key_check p numbers) → answered a ≡ outcome (inverse_checks p numbers) (tt {0})
+  pub key_answered : (a : Result (Unit {0}) Refusal) → number (answered a) ≡ number (stored_key_check p numbers) → answered a ≡ outcome (inverse_checks p numbers) (tt {0})
   unfolding stored_key_check
   key_answered a e =
       let cs = inverse_checks p numbers in

@@ -8,9 +8,9 @@ ghost use Rattle.opened_arrays.specs.Answers.{GivesMessage};
 ghost use Rattle.opened_files.specs.Pairs.{opening_pair, opening_files};
 
 use crate::sealed_files::open_sealed;
-use opened_arrays::{Opened, least};
+use opened_arrays::least;
 use parameters::Parameters;
-use refusals::Answer;
+use refusals::Refusal;
 
 // The key goes to the front of the lent numbers.
 fn open_private_in(
@@ -19,16 +19,14 @@ fn open_private_in(
     second: &[u8],
     numbers: &mut [i32],
     message: &mut [u8; 256],
-) -> Opened
+) -> Result<usize, Refusal>
     requires { (reading_head 2 first.now ≡ done (set_of p)) × (length numbers.old ≡ 8192) }
     ensures { GivesMessage (opening_pair first.now second.now) result message.old message.new }
 {
     let n = p.n;
     let k = files::file_numbers(heads::kinds::PRIVATE, n);
-    match file_reading::read(heads::kinds::PRIVATE, first, &mut numbers[..k]) {
-        Answer::Done => open_sealed(p, second, numbers, message),
-        Answer::Refused(refusal) => Opened::Refused(refusal),
-    }
+    file_reading::read(heads::kinds::PRIVATE, first, &mut numbers[..k])?;
+    open_sealed(p, second, numbers, message)
 }
 
 // Where the first file ends: after its length, or with the input.
@@ -38,7 +36,7 @@ fn first_end(n: u32, all: usize) -> usize
     least(files::file_bytes(heads::kinds::PRIVATE, n), all)
 }
 
-pub(crate) fn open_private(p: Parameters, input: &[u8], message: &mut [u8; 256]) -> Opened
+pub(crate) fn open_private(p: Parameters, input: &[u8], message: &mut [u8; 256]) -> Result<usize, Refusal>
     requires { reading_head 2 input.now ≡ done (set_of p) }
     ensures { GivesMessage (opening_files input.now) result message.old message.new }
 {

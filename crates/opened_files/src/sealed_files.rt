@@ -8,13 +8,13 @@ ghost use Rattle.opened_arrays.specs.Answers.{GivesMessage};
 ghost use Rattle.opened_files.specs.Pairs.{inverse_checks};
 ghost use Rattle.opened_files.specs.Steps.{KeyRead, key_in, SealedRead, opening_sealed};
 
-use opened_arrays::{Opened, open_pair};
-use parameters::{Made, Parameters};
-use refusals::Answer;
+use opened_arrays::open_pair;
+use parameters::Parameters;
 use stored_keys::key_refusal;
+use refusals::Refusal;
 
 // The sealed array takes the place of Fq and g, which opening does not use. n is N of the key, m that of the sealed file.
-fn read_sealed(n: u32, m: u32, file: &[u8], numbers: &mut [i32]) -> Answer
+fn read_sealed(n: u32, m: u32, file: &[u8], numbers: &mut [i32]) -> Result<(), Refusal>
     requires { (n ≤ 1024) × (m ≤ 1024) × (length numbers.old ≡ 8192) }
     ensures { SealedRead (4 * n) (2 * m) file.now (number (answered result)) numbers.old numbers.new }
 {
@@ -25,12 +25,12 @@ fn read_sealed(n: u32, m: u32, file: &[u8], numbers: &mut [i32]) -> Answer
 
 fn open_sealed_in(
     p: Parameters,
-    key: Answer,
+    key: Result<(), Refusal>,
     sealed: Parameters,
     file: &[u8],
     numbers: &mut [i32],
     message: &mut [u8; 256],
-) -> Opened
+) -> Result<usize, Refusal>
     requires key_read { KeyRead (set_of p) (key_in (set_of p) numbers.old) × (length numbers.old ≡ 8192) }
     requires key_value { answered key ≡ outcome (inverse_checks (set_of p) (key_in (set_of p) numbers.old)) tt }
     requires file_value { reading_head 3 file.now ≡ done (set_of sealed) }
@@ -38,10 +38,8 @@ fn open_sealed_in(
 {
     let n = p.n;
     let m = sealed.n;
-    match read_sealed(n, m, file, numbers) {
-        Answer::Done => open_pair(p, key, sealed, numbers, message),
-        Answer::Refused(refusal) => Opened::Refused(refusal),
-    }
+    read_sealed(n, m, file, numbers)?;
+    open_pair(p, key, sealed, numbers, message)
 }
 
 // Judges the file by its own head. The key check runs first, though its refusals come last.
@@ -50,15 +48,13 @@ pub(crate) fn open_sealed(
     file: &[u8],
     numbers: &mut [i32],
     message: &mut [u8; 256],
-) -> Opened
+) -> Result<usize, Refusal>
     requires { KeyRead (set_of p) (key_in (set_of p) numbers.old) × (length numbers.old ≡ 8192) }
     ensures { GivesMessage (opening_sealed (set_of p) (key_in (set_of p) numbers.old) file.now) result message.old message.new }
 {
     let n = p.n;
     let k = files::file_numbers(heads::kinds::PRIVATE, n);
     let key = key_refusal(p, &numbers[..k]);
-    match head_reading::read_head(heads::kinds::SEALED, file) {
-        Made::Accepted(sealed) => open_sealed_in(p, key, sealed, file, numbers, message),
-        Made::Refused(refusal) => Opened::Refused(refusal),
-    }
+    let sealed = head_reading::read_head(heads::kinds::SEALED, file)?;
+    open_sealed_in(p, key, sealed, file, numbers, message)
 }

@@ -1,9 +1,9 @@
 -- The opening program: the line for its input, and the call that writes it (document 01, 'Files').
+use Rattle.std.specs.Prelude.{Err, Ok, Result}
+use Rattle.refusals.specs.declared.Refusal.{Refusal}
 use Rattle.std.specs.Prelude.{not, List, [], ◌∷◌, ◌++◌, ℕ, eqb, length, take, drop}
 use Rattle.refusals.specs.Outcomes.{Check, Outcome, done, refused, outcome, ◌if◌}
 use Rattle.refusals.specs.Numbers.{number_of}
-use Rattle.opened_arrays.specs.declared.Opened.{Opened}
-use Rattle.opened_arrays.specs.declared.Opened.TheVariants.{Message, Refused}
 use Rattle.opened_files.specs.Pairs.{opening_files}
 use Rattle.lines.specs.Lines.{line_of}
 
@@ -22,6 +22,6 @@ unfoldable pub line_length : List ℕ → ℕ → Outcome ℕ
 line_length input room = outcome (line_checks room) (length (opening_line input))
 
 -- What was opened, with the message at the front of `message`.
-abbrev pub opened_is : Opened → List ℕ → Outcome (List ℕ)
-opened_is (Message n) message = done (take n message)
-opened_is (Refused r) message = refused (number_of r)
+abbrev pub opened_is : Result ℕ Refusal → List ℕ → Outcome (List ℕ)
+opened_is (Ok n) message = done (take n message)
+opened_is (Err r) message = refused (number_of r)

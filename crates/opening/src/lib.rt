@@ -10,9 +10,9 @@ ghost use Rattle.lines.specs.Lines.{line_of};
 ghost use Rattle.opening.specs.Program.{opening_line, line_writing, line_length, opened_is};
 
 use lines::LINE_BYTES;
-use opened_arrays::{Opened, least};
+use opened_arrays::least;
 use opened_files::open_input;
-use refusals::{Answer, Refusal};
+use refusals::Refusal;
 
 // Room for the longest message.
 fn largest() -> [u8; 256] {
@@ -20,17 +20,17 @@ fn largest() -> [u8; 256] {
 }
 
 // The line of what was opened, to the front of line; answers its length.
-fn write_opened(opened: Opened, message: &[u8], line: &mut [u8]) -> usize
+fn write_opened(opened: Result<usize, Refusal>, message: &[u8], line: &mut [u8]) -> usize
     requires { (length message.now ≡ 256) × (length line.old ≡ 515) }
     ensures { (result ≡ length (line_of (opened_is opened message.now))) × (line.new ≡ line_of (opened_is opened message.now) ++ drop result line.old) }
 {
     match opened {
-        Opened::Message(n) => {
+        Ok(n) => {
             // No message is longer than its room.
             let end = least(n, message.len());
             lines::write_message(&message[..end], line)
         }
-        Opened::Refused(refusal) => lines::write_refusal(refusal, line),
+        Err(refusal) => lines::write_refusal(refusal, line),
     }
 }
 
@@ -52,14 +52,14 @@ fn write_line(input: &[u8], line: &mut [u8]) -> usize
 }
 
 // The line that the opening program prints for its input, to the front of line, and its length to used. Any input has its line, so the call refuses only a line that is not lent with LINE_BYTES bytes.
-pub fn open_files(input: &[u8], line: &mut [u8], used: &mut usize) -> Answer
+pub fn open_files(input: &[u8], line: &mut [u8], used: &mut usize) -> Result<(), Refusal>
     ensures gives { Gives (line_writing input.now line.old) (number (answered result)) line.old line.new }
     ensures gives_2 { Gives (line_length input.now (length line.old)) (number (answered result)) used.old used.new }
 {
     if line.len() != LINE_BYTES {
-        return Answer::Refused(Refusal::WrongLength);
+        return Err(Refusal::WrongLength);
     }
     let end = write_line(input, line);
     *used = end;
-    Answer::Done
+    Ok(())
 }

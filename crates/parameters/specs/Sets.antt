@@ -1,4 +1,6 @@
 -- Document 01, 'Parameters', and refusals 1 to 6.
+use Rattle.std.specs.Prelude.{Err, Ok, Result}
+use Rattle.refusals.specs.declared.Refusal.{Refusal}
 use Rattle.std.specs.Prelude.{Bool, not, ◌&&◌, ◌||◌, List, [], ◌∷◌, ℕ, ◌+◌, ◌*◌, ◌%◌, ltb, eqb, ℤ}
 use Rattle.refusals.specs.Outcomes.{Check, ◌if◌, Outcome, done, refused, outcome}
 use Rattle.refusals.specs.Numbers.{number_of}
@@ -6,8 +8,6 @@ use Rattle.eisenstein.specs.Values.{ℤ[ω], value, norm}
 use Rattle.eisenstein.specs.Reduction.{bit}
 use Rattle.eisenstein.specs.Calls.{beyond}
 use Rattle.parameters.specs.declared.Parameters.{Parameters}
-use Rattle.parameters.specs.declared.Made.{Made}
-use Rattle.parameters.specs.declared.Made.TheVariants.{Accepted, Refused}
 
 -- A parameter set: N coefficients, the modulus q, s nonzero coefficients of g and of φ, and t of f.
 pub record ParameterSet : Type 0 where
@@ -48,6 +48,6 @@ unfoldable pub parameters : ParameterSet → Outcome ParameterSet
 parameters p = outcome (parameter_checks p) p
 
 -- The answer of the maker, as an outcome.
-abbrev pub made : Made → Outcome ParameterSet
-made (Accepted p) = done (set_of p)
-made (Refused r) = refused (number_of r)
+abbrev pub made : Result Parameters Refusal → Outcome ParameterSet
+made (Ok p) = done (set_of p)
+made (Err r) = refused (number_of r)

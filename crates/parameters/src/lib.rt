@@ -11,7 +11,7 @@ ghost use Rattle.eisenstein.specs.Values.{value, norm};
 ghost use Rattle.eisenstein.specs.Calls.{beyond};
 ghost use Rattle.parameters.specs.Sets.{set, set_of, outside, even, parameter_checks, parameters, made};
 
-use refusals::{Answer, Refusal};
+use refusals::Refusal;
 
 // N coefficients, the modulus q = (c, d), s nonzero coefficients of g and of the ephemeral φ, t of f.
 #[derive(Clone, Copy)]
@@ -21,12 +21,6 @@ pub struct Parameters {
     pub d: i32,
     pub s: u32,
     pub t: u32,
-}
-
-#[derive(Clone, Copy)]
-pub enum Made {
-    Accepted(Parameters),
-    Refused(Refusal),
 }
 
 // Whether x is not from low to high.
@@ -71,28 +65,28 @@ fn not_below_norm(c: i32, d: i32, s: u32, t: u32) -> bool
     norm <= 4 * (w * w)
 }
 
-fn check_numbers(n: u32, c: i32, d: i32, s: u32, t: u32) -> Answer
+fn check_numbers(n: u32, c: i32, d: i32, s: u32, t: u32) -> Result<(), Refusal>
     ensures { answered result ≡ outcome (parameter_checks (set n c d s t)) tt }
 {
     if out_of_range(n, Parameters::MIN_N, Parameters::MAX_N) {
-        return Answer::Refused(Refusal::CoefficientCountOutOfRange);
+        return Err(Refusal::CoefficientCountOutOfRange);
     }
     if eisenstein::modulus_out_of_range(c, d) {
-        return Answer::Refused(Refusal::ModulusPartOutOfRange);
+        return Err(Refusal::ModulusPartOutOfRange);
     }
     if both_even(c, d) {
-        return Answer::Refused(Refusal::ModulusPartsBothEven);
+        return Err(Refusal::ModulusPartsBothEven);
     }
     if bad_s(n, s) {
-        return Answer::Refused(Refusal::SOutOfRange);
+        return Err(Refusal::SOutOfRange);
     }
     if out_of_range(t, Parameters::MIN_T, n) {
-        return Answer::Refused(Refusal::TOutOfRange);
+        return Err(Refusal::TOutOfRange);
     }
     if not_below_norm(c, d, s, t) {
-        return Answer::Refused(Refusal::BoundNotBelowNorm);
+        return Err(Refusal::BoundNotBelowNorm);
     }
-    Answer::Done
+    Ok(())
 }
 
 impl Parameters {
@@ -106,7 +100,7 @@ impl Parameters {
     pub const MIN_T: u32 = 1;
 
     // The first of refusals 1 to 6 that applies.
-    pub fn check(self) -> Answer
+    pub fn check(self) -> Result<(), Refusal>
         ensures { answered result ≡ outcome (parameter_checks (set_of self)) tt }
     {
         let n = self.n;
@@ -118,12 +112,10 @@ impl Parameters {
     }
 
     // A parameter set that is accepted, or the first refusal.
-    pub fn new(n: u32, c: i32, d: i32, s: u32, t: u32) -> Made
+    pub fn new(n: u32, c: i32, d: i32, s: u32, t: u32) -> Result<Parameters, Refusal>
         ensures { made result ≡ parameters (set n c d s t) }
     {
-        match check_numbers(n, c, d, s, t) {
-            Answer::Done => Made::Accepted(Parameters { n, c, d, s, t }),
-            Answer::Refused(refusal) => Made::Refused(refusal),
-        }
+        check_numbers(n, c, d, s, t)?;
+        Ok(Parameters { n, c, d, s, t })
     }
 }

@@ -13,7 +13,7 @@ ghost use Rattle.placed_ephemerals.specs.Calls.{spreading, places_sealing, numbe
 
 use parameters::Parameters;
 use placed_units::PlacedUnit;
-use refusals::Answer;
+use refusals::Refusal;
 
 // Zeros, with room for the numbers of 1,024 records: 8 KiB of the caller's stack.
 fn zeros() -> [u32; 2048]
@@ -47,7 +47,7 @@ fn numbers_of(places: &[PlacedUnit]) -> [u32; 2048]
 }
 
 // The numbers come by value, since the functions over records lend no local array.
-fn spread_laid(p: Parameters, numbers: [u32; 2048], count: usize, phi: &mut [i32]) -> Answer
+fn spread_laid(p: Parameters, numbers: [u32; 2048], count: usize, phi: &mut [i32]) -> Result<(), Refusal>
     ensures { Gives (numbers_spreading (set_of p) numbers count (length phi.old))
         (number (answered result)) phi.old phi.new }
 {
@@ -62,7 +62,7 @@ fn seal_laid(
     count: usize,
     message: &[u8],
     e: &mut [i32],
-) -> Answer
+) -> Result<(), Refusal>
     ensures { Gives (numbers_sealing (set_of p) h.now numbers count message.now (length e.old))
         (number (answered result)) e.old e.new }
 {
@@ -70,7 +70,7 @@ fn seal_laid(
 }
 
 // Spreads a list of places to phi.
-pub fn spread_places(p: Parameters, places: &[PlacedUnit], phi: &mut [i32]) -> Answer
+pub fn spread_places(p: Parameters, places: &[PlacedUnit], phi: &mut [i32]) -> Result<(), Refusal>
     ensures { Gives (spreading (set_of p) places.now (length phi.old))
         (number (answered result)) phi.old phi.new }
 {
@@ -86,7 +86,7 @@ pub fn seal_places(
     places: &[PlacedUnit],
     message: &[u8],
     e: &mut [i32],
-) -> Answer
+) -> Result<(), Refusal>
     ensures { Gives (places_sealing (set_of p) h.now places.now message.now (length e.old))
         (number (answered result)) e.old e.new }
 {

@@ -12,7 +12,7 @@ ghost use Rattle.placed_ephemerals.specs.Calls.{numbers_sealing};
 mod spread;
 
 use parameters::Parameters;
-use refusals::Answer;
+use refusals::Refusal;
 
 // Seals a message with the public key h and the list of `count` records, laid out as numbers, to e.
 pub fn seal_numbers(
@@ -22,12 +22,10 @@ pub fn seal_numbers(
     count: usize,
     message: &[u8],
     e: &mut [i32],
-) -> Answer
+) -> Result<(), Refusal>
     ensures { Gives (numbers_sealing (set_of p) h.now numbers.now count message.now (length e.old))
         (number (answered result)) e.old e.new }
 {
-    match spread::refusal_before_places(p, h, count, numbers.len(), message.len(), e.len()) {
-        Answer::Done => spread::seal_spread(p, h, numbers, count, message, e),
-        Answer::Refused(refusal) => Answer::Refused(refusal),
-    }
+    spread::refusal_before_places(p, h, count, numbers.len(), message.len(), e.len())?;
+    spread::seal_spread(p, h, numbers, count, message, e)
 }

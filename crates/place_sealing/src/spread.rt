@@ -10,7 +10,7 @@ ghost use Rattle.placed_ephemerals.specs.Calls.{not_all_there, before_places, nu
 
 use array_sets::{ArraySet, check_array};
 use parameters::Parameters;
-use refusals::{Answer, Refusal};
+use refusals::Refusal;
 
 // Whether the message has its bytes, the list s records, which are all given, and h and the output 2N numbers.
 fn has_lengths(
@@ -40,16 +40,16 @@ pub(crate) fn refusal_before_places(
     given: usize,
     message: usize,
     room: usize,
-) -> Answer
+) -> Result<(), Refusal>
     ensures { answered result ≡ outcome (parameter_checks (set_of p)
         ++ not_all_there given count ∷ before_places (set_of p) h.now count message room) tt }
 {
     let n = p.n;
     let s = p.s;
     let lengths = has_lengths(n, s, count, given, message, h.len(), room);
-    p.check()
-        .and(Refusal::WrongLength.when(!lengths))
-        .and(check_array(p, ArraySet::ReducedModuloQ, h))
+    p.check()?;
+    Refusal::WrongLength.when(!lengths)?;
+    check_array(p, ArraySet::ReducedModuloQ, h)
 }
 
 // The array of the list goes to phi. Spreading gives 23, 24 and 10; sealing asks again what was asked before them, and then 15.
@@ -61,17 +61,15 @@ fn seal_with(
     message: &[u8],
     phi: &mut [i32],
     e: &mut [i32],
-) -> Answer
+) -> Result<(), Refusal>
     requires passes { Passes (parameter_checks (set_of p)) × T (reduced_q p.n (set_of p).q (coefficient h.now)) }
     requires message_len { (length message.now ≡ message_bytes p.n) × (count ≡ p.s)
         × (length h.now ≡ 2 * p.n) × (length e.old ≡ 2 * p.n) × (2 * count ≤ length numbers.now) × (length phi.old ≡ 2 * p.n) }
     ensures { Gives (numbers_sealing (set_of p) h.now numbers.now count message.now (length e.old))
         (number (answered result)) e.old e.new }
 {
-    match place_spreading::spread_numbers(p, numbers, count, phi) {
-        Answer::Done => sealing::seal(p, h, phi, message, e),
-        Answer::Refused(refusal) => Answer::Refused(refusal),
-    }
+    place_spreading::spread_numbers(p, numbers, count, phi)?;
+    sealing::seal(p, h, phi, message, e)
 }
 
 pub(crate) fn seal_spread(
@@ -81,7 +79,7 @@ pub(crate) fn seal_spread(
     count: usize,
     message: &[u8],
     e: &mut [i32],
-) -> Answer
+) -> Result<(), Refusal>
     requires passes { Passes (parameter_checks (set_of p)) × T (reduced_q p.n (set_of p).q (coefficient h.now)) }
     requires message_len { (length message.now ≡ message_bytes p.n) × (count ≡ p.s)
         × (length h.now ≡ 2 * p.n) × (length e.old ≡ 2 * p.n) × (2 * count ≤ length numbers.now) }

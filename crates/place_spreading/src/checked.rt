@@ -12,7 +12,7 @@ ghost use Rattle.placed_ephemerals.specs.Calls.{place_checks};
 use crate::laying;
 use array_sets::{ArraySet, check_array};
 use parameters::Parameters;
-use refusals::{Answer, Refusal};
+use refusals::Refusal;
 
 // Whether a list has s records, which are all given, and the output's length is 2N.
 pub(crate) fn has_lengths(n: u32, s: u32, count: usize, given: usize, room: usize) -> bool
@@ -27,23 +27,23 @@ pub(crate) fn has_lengths(n: u32, s: u32, count: usize, given: usize, room: usiz
 }
 
 // The refusals of a list's records. They are laid into x, an array of zeros, to see whether a place occurs twice and whether φ is in its set.
-fn places_refusal(p: Parameters, numbers: &[u32], count: usize, x: &mut [i32]) -> Answer
+fn places_refusal(p: Parameters, numbers: &[u32], count: usize, x: &mut [i32]) -> Result<(), Refusal>
     requires passes { Passes (parameter_checks (set_of p)) × (count ≡ p.s) }
     requires x_len { (length x.old ≡ 2 * p.n) × Zeros x.old }
     ensures { answered result ≡ outcome (place_checks (set_of p) (records_from numbers.now 0 count)) tt }
 {
     let n = p.n;
     if laying::any_out_of_range(n, numbers, count) {
-        return Answer::Refused(Refusal::PlaceOrUnitOutOfRange);
+        return Err(Refusal::PlaceOrUnitOutOfRange);
     }
     if !laying::lay(n, numbers, count, x) {
-        return Answer::Refused(Refusal::PlaceOccursTwice);
+        return Err(Refusal::PlaceOccursTwice);
     }
     check_array(p, ArraySet::Phi, x)
 }
 
 // Only a list that is not refused is laid into phi, so a refusal leaves phi as it came.
-pub(crate) fn spread_into(p: Parameters, numbers: &[u32], count: usize, phi: &mut [i32]) -> Answer
+pub(crate) fn spread_into(p: Parameters, numbers: &[u32], count: usize, phi: &mut [i32]) -> Result<(), Refusal>
     requires { Passes (parameter_checks (set_of p)) × (count ≡ p.s) × (length phi.old ≡ 2 * p.n) }
     ensures { Gives (outcome (place_checks (set_of p) (records_from numbers.now 0 count))
         (array p.n (spread (records_from numbers.now 0 count))))
@@ -52,12 +52,8 @@ pub(crate) fn spread_into(p: Parameters, numbers: &[u32], count: usize, phi: &mu
     let n = p.n;
     let k = 2 * (n as usize);
     let mut x = arrays::zeros();
-    match places_refusal(p, numbers, count, &mut x[..k]) {
-        Answer::Done => {
-            arrays::clear(phi);
-            laying::lay(n, numbers, count, phi);
-            Answer::Done
-        }
-        Answer::Refused(refusal) => Answer::Refused(refusal),
-    }
+    places_refusal(p, numbers, count, &mut x[..k])?;
+    arrays::clear(phi);
+    laying::lay(n, numbers, count, phi);
+    Ok(())
 }

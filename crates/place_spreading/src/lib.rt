@@ -14,18 +14,17 @@ mod checked;
 mod laying;
 
 use parameters::Parameters;
-use refusals::{Answer, Refusal};
+use refusals::Refusal;
 
 // Spreads the list of `count` records, laid out as numbers, to phi.
-pub fn spread_numbers(p: Parameters, numbers: &[u32], count: usize, phi: &mut [i32]) -> Answer
+pub fn spread_numbers(p: Parameters, numbers: &[u32], count: usize, phi: &mut [i32]) -> Result<(), Refusal>
     ensures { Gives (numbers_spreading (set_of p) numbers.now count (length phi.old))
         (number (answered result)) phi.old phi.new }
 {
     let n = p.n;
     let s = p.s;
     let lengths = checked::has_lengths(n, s, count, numbers.len(), phi.len());
-    match p.check().and(Refusal::WrongLength.when(!lengths)) {
-        Answer::Done => checked::spread_into(p, numbers, count, phi),
-        Answer::Refused(refusal) => Answer::Refused(refusal),
-    }
+    p.check()?;
+    Refusal::WrongLength.when(!lengths)?;
+    checked::spread_into(p, numbers, count, phi)
 }

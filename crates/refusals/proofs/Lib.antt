@@ -1,2 +1,3 @@
 pub mod Checks
 pub mod Numbers
+pub mod Errors

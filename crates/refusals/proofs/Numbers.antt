@@ -9,10 +9,9 @@ use denote.Struct.Field.{Field}
 use denote.Enum.Declared.{Choice}
 use lib.Dec.{T, ltb}
 use mir.Facts.{and_yes, ltb_yes}
+use Rattle.std.specs.Prelude.{Result, Ok, Err}
 use Rattle.refusals.specs.Outcomes.{Check, Outcome, refused, outcome, number}
 use Rattle.refusals.specs.Numbers.{number_of, answered}
-use Rattle.refusals.specs.declared.Answer.{Answer}
-use Rattle.refusals.specs.declared.Answer.TheVariants.{Done, Refused}
 use Rattle.refusals.specs.declared.Refusal.{Refusal}
 use Rattle.refusals.proofs.Checks.{positive, done_by_number, refused_by_number}
 use Rattle.refusals.specs.contracts.Refusal as variants
@@ -43,9 +42,9 @@ two_digits r = ltb_yes (and_yes (ltb 0 (number_of r)) (ltb (number_of r) 100) (i
 
 -- ---- an outcome from the number of an answer
 
-pub answer_by_number : (a : Answer) (cs : List Check) → T (positive cs) → number (answered a) ≡ number (outcome cs (tt {0})) → answered a ≡ outcome cs (tt {0})
-answer_by_number Done cs t e = sym (done_by_number cs (tt {0}) t (sym e))
-answer_by_number (Refused r) cs t e = sym (refused_by_number (outcome cs (tt {0})) (number_of r) (number_positive r) (sym e))
+pub answer_by_number : (a : Result (Unit {0}) Refusal) (cs : List Check) → T (positive cs) → number (answered a) ≡ number (outcome cs (tt {0})) → answered a ≡ outcome cs (tt {0})
+answer_by_number (Ok a) cs t e = sym (done_by_number cs a t (sym e))
+answer_by_number (Err r) cs t e = sym (refused_by_number (outcome cs (tt {0})) (number_of r) (number_positive r) (sym e))
 
-pub answer_refused : {A : Type 0} (o : Outcome A) (answer : Answer) (r : Refusal) → number (answered answer) ≡ number o → answer ≡ Refused r → o ≡ refused (number_of r)
-answer_refused o answer r e a = refused_by_number o (number_of r) (number_positive r) (sym e ∙ ap (λ (x : Answer). number (answered x)) a)
+pub answer_refused : {A B : Type 0} (o : Outcome A) (answer : Result B Refusal) (r : Refusal) → number (answered answer) ≡ number o → answer ≡ Err r → o ≡ refused (number_of r)
+answer_refused {B = B} o answer r e a = refused_by_number o (number_of r) (number_positive r) (sym e ∙ ap (λ (x : Result B Refusal). number (answered x)) a)

@@ -1,8 +1,6 @@
 -- The number of each refusal, in the order of document 01's table ('Where each number is checked'), then those of document 02's wishes.
-use Rattle.std.specs.Prelude.{ℕ}
+use Rattle.std.specs.Prelude.{ℕ, Result, Ok, Err}
 use Rattle.refusals.specs.Outcomes.{Outcome, done, refused}
-use Rattle.refusals.specs.declared.Answer.{Answer}
-use Rattle.refusals.specs.declared.Answer.TheVariants.{Done, Refused}
 use Rattle.refusals.specs.declared.Refusal.{Refusal}
 
 abbrev pub number_of : Refusal → ℕ
@@ -34,7 +32,7 @@ number_of Refusal.StopOccursTwice = 25
 number_of Refusal.ShortMessageTooLong = 26
 number_of Refusal.NotAShortMessage = 27
 
--- An answer that carries no value, as an outcome.
-abbrev pub answered : Answer → Outcome (Unit {0})
-answered Done = done tt
-answered (Refused r) = refused (number_of r)
+-- A result, as an outcome.
+abbrev pub answered : {A : Type 0} → Result A Refusal → Outcome A
+answered (Ok a) = done a
+answered (Err r) = refused (number_of r)

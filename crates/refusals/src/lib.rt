@@ -4,37 +4,37 @@
 
 ghost use Rattle.std.specs.Prelude.{◌≡◌, [], ◌∷◌};
 ghost use Rattle.refusals.specs.Numbers.{number_of, answered};
-ghost use Rattle.refusals.specs.Outcomes.{number, outcome, first, ◌if◌};
+ghost use Rattle.refusals.specs.Outcomes.{number, outcome, ◌if◌};
 
-#[derive(Clone, Copy)]
+#[derive(Clone, Copy, Debug, PartialEq, Eq)]
 pub enum Refusal {
-    CoefficientCountOutOfRange,
-    ModulusPartOutOfRange,
-    ModulusPartsBothEven,
-    SOutOfRange,
-    TOutOfRange,
-    BoundNotBelowNorm,
-    WrongLength,
-    FNotInItsSet,
-    GNotInItsSet,
-    PhiNotInItsSet,
-    NotReducedModulo2,
-    NotReducedModuloQ,
-    NotInverseModulo2,
-    NotInverseModuloQ,
-    SpareBitSet,
-    HeadTooShort,
-    MarkNotEiz,
-    VersionNotOne,
-    KindNotWanted,
-    ParametersDiffer,
-    ModulusZero,
-    ValueOutOfRange,
-    PlaceOrUnitOutOfRange,
-    PlaceOccursTwice,
-    StopOccursTwice,
-    ShortMessageTooLong,
-    NotAShortMessage,
+    CoefficientCountOutOfRange = 1,
+    ModulusPartOutOfRange = 2,
+    ModulusPartsBothEven = 3,
+    SOutOfRange = 4,
+    TOutOfRange = 5,
+    BoundNotBelowNorm = 6,
+    WrongLength = 7,
+    FNotInItsSet = 8,
+    GNotInItsSet = 9,
+    PhiNotInItsSet = 10,
+    NotReducedModulo2 = 11,
+    NotReducedModuloQ = 12,
+    NotInverseModulo2 = 13,
+    NotInverseModuloQ = 14,
+    SpareBitSet = 15,
+    HeadTooShort = 16,
+    MarkNotEiz = 17,
+    VersionNotOne = 18,
+    KindNotWanted = 19,
+    ParametersDiffer = 20,
+    ModulusZero = 21,
+    ValueOutOfRange = 22,
+    PlaceOrUnitOutOfRange = 23,
+    PlaceOccursTwice = 24,
+    StopOccursTwice = 25,
+    ShortMessageTooLong = 26,
+    NotAShortMessage = 27,
 }
 
 impl Refusal {
@@ -42,73 +42,26 @@ impl Refusal {
     pub fn number(self) -> u32
         ensures { result ≡ number_of self }
     {
-        match self {
-            Refusal::CoefficientCountOutOfRange => 1,
-            Refusal::ModulusPartOutOfRange => 2,
-            Refusal::ModulusPartsBothEven => 3,
-            Refusal::SOutOfRange => 4,
-            Refusal::TOutOfRange => 5,
-            Refusal::BoundNotBelowNorm => 6,
-            Refusal::WrongLength => 7,
-            Refusal::FNotInItsSet => 8,
-            Refusal::GNotInItsSet => 9,
-            Refusal::PhiNotInItsSet => 10,
-            Refusal::NotReducedModulo2 => 11,
-            Refusal::NotReducedModuloQ => 12,
-            Refusal::NotInverseModulo2 => 13,
-            Refusal::NotInverseModuloQ => 14,
-            Refusal::SpareBitSet => 15,
-            Refusal::HeadTooShort => 16,
-            Refusal::MarkNotEiz => 17,
-            Refusal::VersionNotOne => 18,
-            Refusal::KindNotWanted => 19,
-            Refusal::ParametersDiffer => 20,
-            Refusal::ModulusZero => 21,
-            Refusal::ValueOutOfRange => 22,
-            Refusal::PlaceOrUnitOutOfRange => 23,
-            Refusal::PlaceOccursTwice => 24,
-            Refusal::StopOccursTwice => 25,
-            Refusal::ShortMessageTooLong => 26,
-            Refusal::NotAShortMessage => 27,
-        }
+        self as u32
     }
 
     // One check: this refusal, where its condition applies.
-    pub fn when(self, applies: bool) -> Answer
+    pub fn when(self, applies: bool) -> Result<(), Refusal>
         ensures { answered result ≡ outcome (number_of self if applies ∷ []) tt }
     {
         if applies {
-            return Answer::Refused(self);
+            return Err(self);
         }
-        Answer::Done
+        Ok(())
     }
 }
 
-// What a call answers that writes its result to lent outputs.
-#[derive(Clone, Copy)]
-pub enum Answer {
-    Done,
-    Refused(Refusal),
-}
-
-impl Answer {
-    // The document's number, or 0 where nothing is refused.
-    pub fn number(self) -> u32
-        ensures { result ≡ number (answered self) }
-    {
-        match self {
-            Answer::Done => 0,
-            Answer::Refused(refusal) => refusal.number(),
-        }
-    }
-
-    // The first refusal of two answers: this one's stands before the next one's.
-    pub fn and(self, next: Answer) -> Answer
-        ensures { answered result ≡ first (answered self) (answered next) }
-    {
-        match self {
-            Answer::Done => next,
-            Answer::Refused(refusal) => Answer::Refused(refusal),
-        }
+// The document's number of what was answered, or 0 where nothing is refused.
+pub fn status(answer: Result<(), Refusal>) -> u32
+    ensures { result ≡ number (answered answer) }
+{
+    match answer {
+        Ok(()) => 0,
+        Err(refusal) => refusal.number(),
     }
 }

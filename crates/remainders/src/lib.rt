@@ -15,8 +15,8 @@ ghost use Rattle.remainders.specs.Conditions.{Differ};
 mod checks;
 
 use crate::checks::reduction_refusal;
-use eisenstein::{Pair, Reduced, Wide, norm};
-use refusals::Answer;
+use eisenstein::{Pair, Wide, norm};
+use refusals::Refusal;
 
 // x divided by n, rounded down.
 fn floor_quotient(x: i64, n: i64) -> i64
@@ -159,13 +159,11 @@ fn remainder_of(a: i64, b: i64, c: i32, d: i32) -> Pair
 }
 
 // One value (a, b) modulo q = (c, d): refusals 2, 21, 22, or the remainder.
-pub fn reduce_q(a: i64, b: i64, c: i32, d: i32) -> Reduced
+pub fn reduce_q(a: i64, b: i64, c: i32, d: i32) -> Result<Pair, Refusal>
     ensures { answered result ≡ reduce_q (value c d) (value a b) }
 {
-    match reduction_refusal(a, b, c, d) {
-        Answer::Done => Reduced::Remainder(remainder_of(a, b, c, d)),
-        Answer::Refused(refusal) => Reduced::Refused(refusal),
-    }
+    reduction_refusal(a, b, c, d)?;
+    Ok(remainder_of(a, b, c, d))
 }
 
 // The remainder of (a, b) modulo q = (c, d), and zero where `reduce_q` refuses.
@@ -173,8 +171,8 @@ pub fn remainder_q(a: i64, b: i64, c: i32, d: i32) -> Pair
     ensures { value result.a result.b ≡ written (reduce_q (value c d) (value a b)) 𝟘 }
 {
     match reduction_refusal(a, b, c, d) {
-        Answer::Done => remainder_of(a, b, c, d),
-        Answer::Refused(_) => Pair { a: 0, b: 0 },
+        Ok(()) => remainder_of(a, b, c, d),
+        Err(_) => Pair { a: 0, b: 0 },
     }
 }
 

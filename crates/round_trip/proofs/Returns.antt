@@ -1,4 +1,6 @@
 -- What the calls one after another give: an outcome is known from the number that its call returned, the round trip gives the message, and two sealings that leave equal arrays have sealed equal messages.
+use Rattle.std.specs.Prelude.{Ok, Result}
+use Rattle.refusals.specs.declared.Refusal.{Refusal}
 use mathlib.Core.Path.{◌≡◌, sym, ◌∙◌, ap}
 use mathlib.Core.List.{List, ◌++◌}
 use Prim.Native.Nat.{ℕ, ◌*◌}
@@ -6,8 +8,6 @@ use lib.IntN.{ℤ}
 use lib.ListN.{length}
 use Rattle.refusals.specs.Outcomes.{Outcome, done, number, written, Gives}
 use Rattle.refusals.specs.Numbers.{answered}
-use Rattle.refusals.specs.declared.Answer.{Answer}
-use Rattle.refusals.specs.declared.Answer.TheVariants.{Done}
 use Rattle.refusals.proofs.Checks.{done_as_written, gives_same}
 use Rattle.parameters.specs.Sets.{ParameterSet, parameter_checks}
 use Rattle.polynomials.specs.Polynomials.{coefficient, array}
@@ -24,18 +24,18 @@ wrote_same {A} old e = sym (ap (λ (x : Outcome A). written x old) e)
 
 -- ---- an outcome from its number
 
-pub key_done : (p : ParameterSet) (f F2 Fq g : List ℤ) (room : ℕ) (old new : List ℤ) (answer : Answer) → answer ≡ Done → Gives (key_check p f F2 Fq g room) (number (answered answer)) old new → key_check p f F2 Fq g room ≡ done new
+pub key_done : (p : ParameterSet) (f F2 Fq g : List ℤ) (room : ℕ) (old new : List ℤ) (answer : Result (Unit {0}) Refusal) → answer ≡ (Ok tt) → Gives (key_check p f F2 Fq g room) (number (answered answer)) old new → key_check p f F2 Fq g room ≡ done new
 unfolding key_check key_checks parameter_checks
 key_done p f F2 Fq g room old new answer a o =
     done_as_written (parameter_checks p ++ key_checks p f F2 Fq g room) (array p.N (public_key p (coefficient Fq) (coefficient g))) old new tt
-    (sym o.0 ∙ ap (λ (x : Answer). number (answered x)) a)
+    (sym o.0 ∙ ap (λ (x : Result (Unit {0}) Refusal). number (answered x)) a)
     o.1
 
-pub sealing_done : (p : ParameterSet) (h φ : List ℤ) (message : List ℕ) (room : ℕ) (old new : List ℤ) (answer : Answer) → answer ≡ Done → Gives (sealing p h φ message room) (number (answered answer)) old new → sealing p h φ message room ≡ done new
+pub sealing_done : (p : ParameterSet) (h φ : List ℤ) (message : List ℕ) (room : ℕ) (old new : List ℤ) (answer : Result (Unit {0}) Refusal) → answer ≡ (Ok tt) → Gives (sealing p h φ message room) (number (answered answer)) old new → sealing p h φ message room ≡ done new
 unfolding sealing sealing_checks parameter_checks
 sealing_done p h φ message room old new answer a o =
     done_as_written (parameter_checks p ++ sealing_checks p h φ message room) (array p.N (sealed p (coefficient h) (coefficient φ) (packed message))) old new tt
-    (sym o.0 ∙ ap (λ (x : Answer). number (answered x)) a)
+    (sym o.0 ∙ ap (λ (x : Result (Unit {0}) Refusal). number (answered x)) a)
     o.1
 
 -- ---- demand 3

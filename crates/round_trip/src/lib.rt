@@ -14,7 +14,7 @@ ghost use Rattle.etru.specs.Calls.{key_check, sealing, opening};
 ghost use Rattle.round_trip.specs.RoundTrip.{next, checked_sealing, round_trip, sealing_twice, checked_sealing_twice, Lent};
 
 use parameters::Parameters;
-use refusals::Answer;
+use refusals::Refusal;
 
 fn seal_and_open(
     p: Parameters,
@@ -25,15 +25,13 @@ fn seal_and_open(
     message: &[u8],
     e: &mut [i32],
     opened: &mut [u8],
-) -> Answer
+) -> Result<(), Refusal>
     ensures e_after { e.new ≡ written (sealing (set_of p) h.now phi.now message.now (length e.old)) e.old }
     ensures gives { Gives (next (sealing (set_of p) h.now phi.now message.now (length e.old))
         (λ x. opening (set_of p) f.now f2.now x (length opened.old))) (number (answered result)) opened.old opened.new }
 {
-    match sealing::seal(p, h, phi, message, e) {
-        Answer::Done => unsealing::open(p, f, f2, e, opened),
-        Answer::Refused(refusal) => Answer::Refused(refusal),
-    }
+    sealing::seal(p, h, phi, message, e)?;
+    unsealing::open(p, f, f2, e, opened)
 }
 
 // h, e and opened are lent for the public key, the sealed array and the message that comes back.
@@ -48,7 +46,7 @@ pub fn check_seal_open(
     h: &mut [i32],
     e: &mut [i32],
     opened: &mut [u8],
-) -> Answer
+) -> Result<(), Refusal>
     ensures h_after { h.new ≡ written (key_check (set_of p) f.now f2.now fq.now g.now (length h.old)) h.old }
     ensures e_after { e.new ≡ written (checked_sealing (set_of p) f.now f2.now fq.now g.now
         phi.now message.now (length h.old) (length e.old)) e.old }
@@ -57,10 +55,8 @@ pub fn check_seal_open(
     ensures result_value { Lent (set_of p) f.now f2.now fq.now g.now phi.now message.now h.old e.old
         → length opened.old ≡ message_bytes p.n → (number (answered result) ≡ 0) × (opened.new ≡ message.now) }
 {
-    match key_check::check_key(p, f, f2, fq, g, h) {
-        Answer::Done => seal_and_open(p, f, f2, h, phi, message, e, opened),
-        Answer::Refused(refusal) => Answer::Refused(refusal),
-    }
+    key_check::check_key(p, f, f2, fq, g, h)?;
+    seal_and_open(p, f, f2, h, phi, message, e, opened)
 }
 
 fn seal_twice(
@@ -72,15 +68,13 @@ fn seal_twice(
     message2: &[u8],
     e1: &mut [i32],
     e2: &mut [i32],
-) -> Answer
+) -> Result<(), Refusal>
     ensures e1_after { e1.new ≡ written (sealing (set_of p) h.now phi1.now message1.now (length e1.old)) e1.old }
     ensures gives { Gives (sealing_twice (set_of p) h.now phi1.now phi2.now message1.now message2.now
         (length e1.old) (length e2.old)) (number (answered result)) e2.old e2.new }
 {
-    match sealing::seal(p, h, phi1, message1, e1) {
-        Answer::Done => sealing::seal(p, h, phi2, message2, e2),
-        Answer::Refused(refusal) => Answer::Refused(refusal),
-    }
+    sealing::seal(p, h, phi1, message1, e1)?;
+    sealing::seal(p, h, phi2, message2, e2)
 }
 
 // h, e1 and e2 are lent for the public key and the two sealed arrays.
@@ -97,7 +91,7 @@ pub fn check_seal_twice(
     h: &mut [i32],
     e1: &mut [i32],
     e2: &mut [i32],
-) -> Answer
+) -> Result<(), Refusal>
     ensures h_after { h.new ≡ written (key_check (set_of p) f.now f2.now fq.now g.now (length h.old)) h.old }
     ensures e1_after { e1.new ≡ written (checked_sealing (set_of p) f.now f2.now fq.now g.now
         phi1.now message1.now (length h.old) (length e1.old)) e1.old }
@@ -108,8 +102,6 @@ pub fn check_seal_twice(
         → Lent (set_of p) f.now f2.now fq.now g.now phi2.now message2.now h.old e2.old
         → (number (answered result) ≡ 0) × (e1.new ≡ e2.new → message1.now ≡ message2.now) }
 {
-    match key_check::check_key(p, f, f2, fq, g, h) {
-        Answer::Done => seal_twice(p, h, phi1, message1, phi2, message2, e1, e2),
-        Answer::Refused(refusal) => Answer::Refused(refusal),
-    }
+    key_check::check_key(p, f, f2, fq, g, h)?;
+    seal_twice(p, h, phi1, message1, phi2, message2, e1, e2)
 }

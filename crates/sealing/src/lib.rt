@@ -14,18 +14,14 @@ ghost use Rattle.etru.specs.Calls.{sealing};
 mod sealed;
 
 use parameters::Parameters;
-use refusals::Answer;
+use refusals::Refusal;
 
 // Seals a message with the public key h and the ephemeral φ, to e.
-pub fn seal(p: Parameters, h: &[i32], phi: &[i32], message: &[u8], e: &mut [i32]) -> Answer
+pub fn seal(p: Parameters, h: &[i32], phi: &[i32], message: &[u8], e: &mut [i32]) -> Result<(), Refusal>
     ensures { Gives (sealing (set_of p) h.now phi.now message.now (length e.old))
         (number (answered result)) e.old e.new }
 {
-    match sealing_refusals::sealing_refusal(p, h, phi, message, e.len()) {
-        Answer::Done => {
-            sealed::seal_into(p, h, phi, message, e);
-            Answer::Done
-        }
-        Answer::Refused(refusal) => Answer::Refused(refusal),
-    }
+    sealing_refusals::sealing_refusal(p, h, phi, message, e.len())?;
+    sealed::seal_into(p, h, phi, message, e);
+    Ok(())
 }

@@ -11,18 +11,18 @@ ghost use Rattle.etru.specs.Calls.{sealing_checks};
 
 use array_sets::{ArraySet, check_array};
 use parameters::Parameters;
-use refusals::{Answer, Refusal};
+use refusals::Refusal;
 
 // Those of the parameter set, 7 for all lengths, then h, φ and the message.
-pub fn sealing_refusal(p: Parameters, h: &[i32], phi: &[i32], message: &[u8], room: usize) -> Answer
+pub fn sealing_refusal(p: Parameters, h: &[i32], phi: &[i32], message: &[u8], room: usize) -> Result<(), Refusal>
     ensures { answered result ≡ outcome (parameter_checks (set_of p) ++ sealing_checks (set_of p) h.now phi.now message.now room) tt }
 {
     let n = p.n;
     let lengths = packing::full_with_message(n, message.len(), h.len(), phi.len(), room);
     let spare = packing::spare_bit_set(n, message);
-    p.check()
-        .and(Refusal::WrongLength.when(!lengths))
-        .and(check_array(p, ArraySet::ReducedModuloQ, h))
-        .and(check_array(p, ArraySet::Phi, phi))
-        .and(Refusal::SpareBitSet.when(spare))
+    p.check()?;
+    Refusal::WrongLength.when(!lengths)?;
+    check_array(p, ArraySet::ReducedModuloQ, h)?;
+    check_array(p, ArraySet::Phi, phi)?;
+    Refusal::SpareBitSet.when(spare)
 }

@@ -1,4 +1,5 @@
 -- Short messages and their bits: each reads back to itself, and each that is read comes from just one.
+use Rattle.std.specs.Prelude.{None, Option, Some}
 use mathlib.Core.Path.{◌≡◌, refl, sym, ◌∙◌, ap, subst}
 use mathlib.Core.Bool.{false, not}
 use mathlib.Core.List.{List}
@@ -12,8 +13,6 @@ use lib.Seq.{ext_get_or, length-take-le, get_or-take}
 use Rattle.packing.specs.Messages.{message_bytes, bit_of, byte, spare_bit_set}
 use Rattle.packing.specs.Promises.{Bytes}
 use Rattle.packing.proofs.RoundTrips.{bit_of_lt, listed_length, listed_at, listed-bit, listed_bytes, listed-is, spare_zero, zero_spare}
-use Rattle.short_messages.specs.declared.LastOne.{LastOne}
-use Rattle.short_messages.specs.declared.LastOne.TheVariants.{At, Nowhere}
 use Rattle.short_messages.specs.ShortMessages.{padded_bit, padded, last_one, ends_no_short, not_short, bytes_before, short_of}
 use Rattle.short_messages.specs.Promises.{Short, LongestIsLargest, PaddedBits, PaddedBitsHold, PaddedWhole, PaddedReads, PaddedDistinct, ReadFromJustOne}
 use Rattle.short_messages.proofs.LastOnes.{last_is, Last, last_known}
@@ -53,7 +52,7 @@ pub padded_whole : PaddedWhole
 padded_whole N short fits = let w = whole_padded N short fits in (w.full, w.bytes, w.no_spare)
 
 -- the last 1 is the one that was put there
-padded_last : (N : ℕ) (short : List ℕ) → Short N short → last_one (2 * N) (bit_of (padded N short)) ≡ At (8 * length short)
+padded_last : (N : ℕ) (short : List ℕ) → Short N short → last_one (2 * N) (bit_of (padded N short)) ≡ Some (8 * length short)
 padded_last N short s =
     let p = padded_bits N short s in
     last_is (bit_of (padded N short)) (2 * N) (8 * length short) (omega (arith, s.fits)) p.one p.zeros
@@ -83,7 +82,7 @@ padded_reads N short s =
     let m : 8 * length short % 8 ≡ 0 = omega arith in
     let d : 8 * length short / 8 ≡ length short = omega arith in (
       ap ends_no_short e ∙ ap not (eq-eqb (8 * length short % 8) 0 m),
-      ap (λ (o : LastOne). bytes_before o (padded N short)) e ∙ ap (λ (n : ℕ). take n (padded N short)) d ∙ padded_front N short s,
+      ap (λ (o : Option ℕ). bytes_before o (padded N short)) e ∙ ap (λ (n : ℕ). take n (padded N short)) d ∙ padded_front N short s,
     )
 
 -- bits that agree below 2N make the same message
@@ -111,16 +110,16 @@ padded_distinct N short short' s s' h =
 -- where the last 1 of a message that is a short one stands
 record Ends (N : ℕ) (message : List ℕ) : Type 0 where
   place : ℕ
-  last : last_one (2 * N) (bit_of message) ≡ At place
+  last : last_one (2 * N) (bit_of message) ≡ Some place
   byte-first : place % 8 ≡ 0
 
 ends : (N : ℕ) (message : List ℕ) → not_short N message ≡ false → Ends N message
 unfolding not_short
 ends N message e = go (last_one (2 * N) (bit_of message)) refl e
   where
-    go : (o : LastOne) → last_one (2 * N) (bit_of message) ≡ o → ends_no_short o ≡ false → Ends N message
-    go (At k) h t = record { place = k; last = h; byte-first = eqb-true (k % 8) 0 (not-false (eqb (k % 8) 0) t) }
-    go Nowhere h t = absurd (subst T t tt)
+    go : (o : Option ℕ) → last_one (2 * N) (bit_of message) ≡ o → ends_no_short o ≡ false → Ends N message
+    go (Some k) h t = record { place = k; last = h; byte-first = eqb-true (k % 8) 0 (not-false (eqb (k % 8) 0) t) }
+    go None h t = absurd (subst T t tt)
 
 module _ (N : ℕ) (message : List ℕ) (whole : Whole N message) (end : Ends N message) where
   last : Last (bit_of message) (2 * N) end.place
@@ -171,7 +170,7 @@ module _ (N : ℕ) (message : List ℕ) (whole : Whole N message) (end : Ends N 
 
   short_of_lem : short_of N message ≡ short
   unfolding short_of short
-  short_of_lem = ap (λ (o : LastOne). bytes_before o message) end.last
+  short_of_lem = ap (λ (o : Option ℕ). bytes_before o message) end.last
 
 pub read_from_just_one : ReadFromJustOne
 read_from_just_one N message full bytes no_spare e =

@@ -9,13 +9,6 @@ ghost use Rattle.short_messages.specs.ShortMessages.{too_long, longest_short, pa
 
 use packing::{bit_of, message_bytes};
 
-// Where the last 1 of some bits stands, counted from 0, or that there is none.
-#[derive(Clone, Copy)]
-pub enum LastOne {
-    At(usize),
-    Nowhere,
-}
-
 // Whether 8 × length + 1 exceeds 2N, which is so where there are as many bytes as a message of 2N bits has, or more.
 pub fn too_long(n: u32, length: usize) -> bool
     ensures { result ≡ too_long n length }
@@ -69,15 +62,15 @@ pub fn pad(message: &[u8], out: &mut [u8])
 }
 
 // The last 1 of the 2N bits of a message.
-pub fn last_one(n: u32, message: &[u8]) -> LastOne
+pub fn last_one(n: u32, message: &[u8]) -> Option<usize>
     ensures { result ≡ last_one (2 * n) (bit_of message.now) }
 {
     let mut k = 2 * (n as usize);
     while 0 < k {
         k -= 1;
         if bit_of(message, k) == 1 {
-            return LastOne::At(k);
+            return Some(k);
         }
     }
-    LastOne::Nowhere
+    None
 }

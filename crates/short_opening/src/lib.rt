@@ -14,9 +14,8 @@ ghost use Rattle.short_scheme.specs.Calls.{short_opening};
 
 mod reading;
 
-use opened_arrays::Opened;
 use parameters::Parameters;
-use refusals::{Answer, Refusal};
+use refusals::Refusal;
 
 // The 2N bits go to lent bytes, and are read as a short message.
 fn open_bits(
@@ -26,19 +25,17 @@ fn open_bits(
     e: &[i32],
     bits: &mut [u8],
     message: &mut [u8],
-) -> Opened
+) -> Result<usize, Refusal>
     requires { (length bits.old ≡ message_bytes p.n) × (length message.old ≡ longest_short p.n) }
     ensures { GivesMessage (short_opening (set_of p) f.now f2.now e.now (length message.old)) result message.old message.new }
 {
     let n = p.n;
-    match unsealing::open(p, f, f2, e, bits) {
-        Answer::Done => reading::read_short(n, bits, message),
-        Answer::Refused(refusal) => Opened::Refused(refusal),
-    }
+    unsealing::open(p, f, f2, e, bits)?;
+    reading::read_short(n, bits, message)
 }
 
 // With room for the bits of every N.
-fn open_checked(p: Parameters, f: &[i32], f2: &[i32], e: &[i32], message: &mut [u8]) -> Opened
+fn open_checked(p: Parameters, f: &[i32], f2: &[i32], e: &[i32], message: &mut [u8]) -> Result<usize, Refusal>
     requires { Passes (parameter_checks (set_of p)) × (length message.old ≡ longest_short p.n) }
     ensures { GivesMessage (short_opening (set_of p) f.now f2.now e.now (length message.old)) result message.old message.new }
 {
@@ -49,13 +46,12 @@ fn open_checked(p: Parameters, f: &[i32], f2: &[i32], e: &[i32], message: &mut [
 }
 
 // Opens the sealed array e with the private key f and F2. The short message goes to the front of message, which has as many bytes as the longest one.
-pub fn open_short(p: Parameters, f: &[i32], f2: &[i32], e: &[i32], message: &mut [u8]) -> Opened
+pub fn open_short(p: Parameters, f: &[i32], f2: &[i32], e: &[i32], message: &mut [u8]) -> Result<usize, Refusal>
     ensures { GivesMessage (short_opening (set_of p) f.now f2.now e.now (length message.old)) result message.old message.new }
 {
     let n = p.n;
     let right = message.len() == short_messages::longest_short(n);
-    match p.check().and(Refusal::WrongLength.when(!right)) {
-        Answer::Done => open_checked(p, f, f2, e, message),
-        Answer::Refused(refusal) => Opened::Refused(refusal),
-    }
+    p.check()?;
+    Refusal::WrongLength.when(!right)?;
+    open_checked(p, f, f2, e, message)
 }

@@ -6,9 +6,7 @@ ghost use Rattle.opened_arrays.specs.Answers.{GivesMessage};
 ghost use Rattle.short_messages.specs.declared.LastOne.TheVariants.{At};
 ghost use Rattle.short_messages.specs.ShortMessages.{longest_short, ends_no_short, not_short, bytes_before, short_of};
 
-use opened_arrays::Opened;
 use refusals::Refusal;
-use short_messages::LastOne;
 
 // Copies the first bytes.
 fn copy_front(count: usize, from: &[u8], to: &mut [u8])
@@ -24,25 +22,25 @@ fn copy_front(count: usize, from: &[u8], to: &mut [u8])
 }
 
 // The bytes before the 1 at bit k, to the front of message, if a byte begins there.
-fn read_before(k: usize, bits: &[u8], message: &mut [u8]) -> Opened
+fn read_before(k: usize, bits: &[u8], message: &mut [u8]) -> Result<usize, Refusal>
     requires { (k / 8 ≤ length bits.now) × (k / 8 ≤ length message.old) }
     ensures { GivesMessage (outcome (27 if ends_no_short (At k) ∷ []) (bytes_before (At k) bits.now)) result message.old message.new }
 {
     if k % 8 != 0 {
-        return Opened::Refused(Refusal::NotAShortMessage);
+        return Err(Refusal::NotAShortMessage);
     }
     let count = k / 8;
     copy_front(count, bits, message);
-    Opened::Message(count)
+    Ok(count)
 }
 
 // "27 ... if there is no 1 bit or the last one stands at a bit position ... that is not a multiple of 8"
-pub(crate) fn read_short(n: u32, bits: &[u8], message: &mut [u8]) -> Opened
+pub(crate) fn read_short(n: u32, bits: &[u8], message: &mut [u8]) -> Result<usize, Refusal>
     requires { (length bits.now ≡ message_bytes n) × (length message.old ≡ longest_short n) }
     ensures { GivesMessage (outcome (27 if not_short n bits.now ∷ []) (short_of n bits.now)) result message.old message.new }
 {
     match short_messages::last_one(n, bits) {
-        LastOne::At(k) => read_before(k, bits, message),
-        LastOne::Nowhere => Opened::Refused(Refusal::NotAShortMessage),
+        Some(k) => read_before(k, bits, message),
+        None => Err(Refusal::NotAShortMessage),
     }
 }

@@ -13,7 +13,7 @@ ghost use Rattle.short_scheme.specs.Calls.{short_sealing_checks, short_sealing};
 
 use array_sets::{ArraySet, check_array};
 use parameters::Parameters;
-use refusals::{Answer, Refusal};
+use refusals::Refusal;
 use short_messages::too_long;
 
 // The refusals, in their order: those of the parameter set, 7 for all lengths but the message's, h, φ, and 26 for the message.
@@ -23,17 +23,17 @@ fn short_sealing_refusal(
     phi: &[i32],
     message: usize,
     room: usize,
-) -> Answer
+) -> Result<(), Refusal>
     ensures { answered result ≡ outcome (parameter_checks (set_of p) ++ short_sealing_checks (set_of p) h.now phi.now message room) tt }
 {
     let n = p.n;
     let lengths = arrays::three_full(n, h.len(), phi.len(), room);
     let long = too_long(n, message);
-    p.check()
-        .and(Refusal::WrongLength.when(!lengths))
-        .and(check_array(p, ArraySet::ReducedModuloQ, h))
-        .and(check_array(p, ArraySet::Phi, phi))
-        .and(Refusal::ShortMessageTooLong.when(long))
+    p.check()?;
+    Refusal::WrongLength.when(!lengths)?;
+    check_array(p, ArraySet::ReducedModuloQ, h)?;
+    check_array(p, ArraySet::Phi, phi)?;
+    Refusal::ShortMessageTooLong.when(long)
 }
 
 // The 2N bits go to lent bytes, and are sealed as a message.
@@ -44,7 +44,7 @@ fn seal_bits(
     message: &[u8],
     bits: &mut [u8],
     e: &mut [i32],
-) -> Answer
+) -> Result<(), Refusal>
     requires { (8 * length message.now + 1 ≤ 2 * p.n) × (length bits.old ≡ message_bytes p.n) }
     ensures { Gives (short_sealing (set_of p) h.now phi.now message.now (length e.old))
         (number (answered result)) e.old e.new }
@@ -54,7 +54,7 @@ fn seal_bits(
 }
 
 // A message that is too long meets the first refusal due, 26 at the latest. The bits of another are sealed, with room for those of every N.
-fn seal_checked(p: Parameters, h: &[i32], phi: &[i32], message: &[u8], e: &mut [i32]) -> Answer
+fn seal_checked(p: Parameters, h: &[i32], phi: &[i32], message: &[u8], e: &mut [i32]) -> Result<(), Refusal>
     requires { Passes (parameter_checks (set_of p)) }
     ensures { Gives (short_sealing (set_of p) h.now phi.now message.now (length e.old))
         (number (answered result)) e.old e.new }
@@ -69,12 +69,10 @@ fn seal_checked(p: Parameters, h: &[i32], phi: &[i32], message: &[u8], e: &mut [
 }
 
 // Seals a short message with the public key h and the ephemeral φ, to e.
-pub fn seal_short(p: Parameters, h: &[i32], phi: &[i32], message: &[u8], e: &mut [i32]) -> Answer
+pub fn seal_short(p: Parameters, h: &[i32], phi: &[i32], message: &[u8], e: &mut [i32]) -> Result<(), Refusal>
     ensures { Gives (short_sealing (set_of p) h.now phi.now message.now (length e.old))
         (number (answered result)) e.old e.new }
 {
-    match p.check() {
-        Answer::Done => seal_checked(p, h, phi, message, e),
-        Answer::Refused(refusal) => Answer::Refused(refusal),
-    }
+    p.check()?;
+    seal_checked(p, h, phi, message, e)
 }

@@ -10,10 +10,10 @@ ghost use Rattle.parameters.specs.Sets.{set_of, parameter_checks};
 ghost use Rattle.stored_keys.specs.Keys.{stored_key_check, key_check_in};
 
 use parameters::Parameters;
-use refusals::{Answer, Refusal};
+use refusals::Refusal;
 
 // The key check with Fq and g one after another. The public key that it forms goes to a lent array.
-fn check_parts(p: Parameters, f: &[i32], f2: &[i32], rest: &[i32], h: &mut [i32]) -> Answer
+fn check_parts(p: Parameters, f: &[i32], f2: &[i32], rest: &[i32], h: &mut [i32]) -> Result<(), Refusal>
     requires { length rest.now ≡ 4 * p.n }
     ensures { number (answered result) ≡ number (key_check_in (set_of p) f.now f2.now rest.now (length h.old)) }
 {
@@ -25,7 +25,7 @@ fn check_parts(p: Parameters, f: &[i32], f2: &[i32], rest: &[i32], h: &mut [i32]
     key_check::check_key(p, f, f2, fq, g, h)
 }
 
-fn key_refusal_in(p: Parameters, numbers: &[i32], h: &mut [i32]) -> Answer
+fn key_refusal_in(p: Parameters, numbers: &[i32], h: &mut [i32]) -> Result<(), Refusal>
     requires { (8 * p.n ≤ length numbers.now) × (length h.old ≡ 2 * p.n) }
     ensures { number (answered result) ≡ number (stored_key_check (set_of p) numbers.now) }
 {
@@ -39,25 +39,23 @@ fn key_refusal_in(p: Parameters, numbers: &[i32], h: &mut [i32]) -> Answer
 }
 
 // What is checked is all that is wanted: the public key is formed beside it, in 8 KiB of stack.
-fn accepted_key_refusal(p: Parameters, numbers: &[i32]) -> Answer
+fn accepted_key_refusal(p: Parameters, numbers: &[i32]) -> Result<(), Refusal>
     requires { Passes (parameter_checks (set_of p)) }
     ensures { number (answered result) ≡ number (stored_key_check (set_of p) numbers.now) }
 {
     let n = p.n;
     let k = 2 * (n as usize);
     if numbers.len() < 4 * k {
-        return Answer::Refused(Refusal::WrongLength);
+        return Err(Refusal::WrongLength);
     }
     let mut h = arrays::zeros();
     key_refusal_in(p, numbers, &mut h[..k])
 }
 
 // The first refusal of the key check. Numbers beyond the four arrays play no part.
-pub fn key_refusal(p: Parameters, numbers: &[i32]) -> Answer
+pub fn key_refusal(p: Parameters, numbers: &[i32]) -> Result<(), Refusal>
     ensures { number (answered result) ≡ number (stored_key_check (set_of p) numbers.now) }
 {
-    match p.check() {
-        Answer::Done => accepted_key_refusal(p, numbers),
-        Answer::Refused(refusal) => Answer::Refused(refusal),
-    }
+    p.check()?;
+    accepted_key_refusal(p, numbers)
 }

@@ -14,18 +14,14 @@ ghost use Rattle.etru.specs.Calls.{opening};
 mod opened;
 
 use parameters::Parameters;
-use refusals::Answer;
+use refusals::Refusal;
 
 // Opens the sealed array e with the private key f and F2. The message goes to message.
-pub fn open(p: Parameters, f: &[i32], f2: &[i32], e: &[i32], message: &mut [u8]) -> Answer
+pub fn open(p: Parameters, f: &[i32], f2: &[i32], e: &[i32], message: &mut [u8]) -> Result<(), Refusal>
     ensures { Gives (opening (set_of p) f.now f2.now e.now (length message.old))
         (number (answered result)) message.old message.new }
 {
-    match unsealing_refusals::opening_refusal(p, f, f2, e, message.len()) {
-        Answer::Done => {
-            opened::open_into(p, f, f2, e, message);
-            Answer::Done
-        }
-        Answer::Refused(refusal) => Answer::Refused(refusal),
-    }
+    unsealing_refusals::opening_refusal(p, f, f2, e, message.len())?;
+    opened::open_into(p, f, f2, e, message);
+    Ok(())
 }

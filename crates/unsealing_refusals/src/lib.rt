@@ -11,17 +11,17 @@ ghost use Rattle.etru.specs.Calls.{opening_checks};
 
 use array_sets::{ArraySet, check_array};
 use parameters::Parameters;
-use refusals::{Answer, Refusal};
+use refusals::Refusal;
 
 // Those of the parameter set, 7 for all lengths, then f, F2 and e.
-pub fn opening_refusal(p: Parameters, f: &[i32], f2: &[i32], e: &[i32], room: usize) -> Answer
+pub fn opening_refusal(p: Parameters, f: &[i32], f2: &[i32], e: &[i32], room: usize) -> Result<(), Refusal>
     ensures { answered result ≡ outcome (parameter_checks (set_of p) ++ opening_checks (set_of p) f.now f2.now e.now room) tt }
 {
     let n = p.n;
     let lengths = packing::full_with_message(n, room, f.len(), f2.len(), e.len());
-    p.check()
-        .and(Refusal::WrongLength.when(!lengths))
-        .and(check_array(p, ArraySet::F, f))
-        .and(check_array(p, ArraySet::ReducedModulo2, f2))
-        .and(check_array(p, ArraySet::ReducedModuloQ, e))
+    p.check()?;
+    Refusal::WrongLength.when(!lengths)?;
+    check_array(p, ArraySet::F, f)?;
+    check_array(p, ArraySet::ReducedModulo2, f2)?;
+    check_array(p, ArraySet::ReducedModuloQ, e)
 }

@@ -16,12 +16,12 @@ P s = set_of s.args.p
 abbrev checks : Start → List Check
 checks s = array_checks (P s) s.args.which s.args.x.now
 
-pub returns-in-Done : goal.returns-in-Done
+pub returns : goal.returns
 unfolding array_check
-returns-in-Done c =
-    let accepted : Passes (parameter_checks (P (goal.at.returns-in-Done c).Start)) = sym c.check.ensures ∙ ap answered c.in-Done.is in
-    c.array_refusal.ensures ∙ sym (passed_all (parameter_checks (P (goal.at.returns-in-Done c).Start)) (checks (goal.at.returns-in-Done c).Start) tt accepted)
+returns c =
+    let accepted : Passes (parameter_checks (P (goal.at.returns c).Start)) = sym c.check.ensures ∙ ap answered c.in_ok-check.was in
+    c.array_refusal.ensures ∙ sym (passed_all (parameter_checks (P (goal.at.returns c).Start)) (checks (goal.at.returns c).Start) tt accepted)
 
-pub returns-in-Refused : goal.returns-in-Refused
+pub returns-in_err-check : goal.returns-in_err-check
 unfolding array_check
-returns-in-Refused c = sym (refused_first (parameter_checks (P (goal.at.returns-in-Refused c).Start)) (checks (goal.at.returns-in-Refused c).Start) tt _ (sym c.check.ensures ∙ ap answered c.in-Refused.is))
+returns-in_err-check c = sym (refused_first (parameter_checks (P (goal.at.returns-in_err-check c).Start)) (checks (goal.at.returns-in_err-check c).Start) tt _ (sym c.check.ensures ∙ ap answered c.in_err-check.was))

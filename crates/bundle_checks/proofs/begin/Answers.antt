@@ -15,12 +15,12 @@ use Rattle.bundle_checks.proofs.begin.Goals.{Start}
 abbrev file : Start → List ℕ
 file s = s.args.bytes.now
 
-pub returns-in-Accepted : goal.returns-in-Accepted
-returns-in-Accepted c = let f = file (goal.at.returns-in-Accepted c).Start in
-    let e = sym (ap made c.in-Accepted.is) ∙ c.check_bundle.ensures in
-    (sym (starts f (made_accepted (bundle_checks f) (head_of f) c.in-Accepted.p e).0 ∙ first_start (head_of f).N), e)
+pub returns-in-Ok : goal.returns-in-Ok
+returns-in-Ok c = let f = file (goal.at.returns-in-Ok c).Start in
+    let e = sym (ap made c.in-Ok.is) ∙ c.check_bundle.ensures in
+    (sym (starts f (made_accepted (bundle_checks f) (head_of f) c.in-Ok.p e).0 ∙ first_start (head_of f).N), e)
 
-pub returns-in-Refused : goal.returns-in-Refused
-returns-in-Refused c = let f = file (goal.at.returns-in-Refused c).Start in
-    let e = sym (ap made c.in-Refused.is) ∙ c.check_bundle.ensures in
-    (sym (starts_past f (made_refused (bundle_checks f) (head_of f) c.in-Refused.refusal e)), e)
+pub returns-in-Err : goal.returns-in-Err
+returns-in-Err c = let f = file (goal.at.returns-in-Err c).Start in
+    let e = sym (ap made c.in-Err.is) ∙ c.check_bundle.ensures in
+    (sym (starts_past f (made_refused (bundle_checks f) (head_of f) c.in-Err.refusal e)), e)

@@ -20,20 +20,20 @@ pub judged-requires : goal.judged-requires
 unfolding bundle_checks reading_parameters
 judged-requires c =
     let head_is : made c.read_bundle_head.result ≡ outcome (count_checks (file (goal.at.judged-requires c).Start)) (head_of (file (goal.at.judged-requires c).Start)) = c.read_bundle_head.ensures in
-    let accepted : Passes (count_checks (file (goal.at.judged-requires c).Start)) × (head_of (file (goal.at.judged-requires c).Start) ≡ set_of c.in-Accepted.p) = made_accepted (count_checks (file (goal.at.judged-requires c).Start)) (head_of (file (goal.at.judged-requires c).Start)) c.in-Accepted.p (sym (ap made c.in-Accepted.is) ∙ head_is) in
+    let accepted : Passes (count_checks (file (goal.at.judged-requires c).Start)) × (head_of (file (goal.at.judged-requires c).Start) ≡ set_of c.in_ok-read_bundle_head.p) = made_accepted (count_checks (file (goal.at.judged-requires c).Start)) (head_of (file (goal.at.judged-requires c).Start)) c.in_ok-read_bundle_head.p (sym (ap made c.in_ok-read_bundle_head.was) ∙ head_is) in
     let a = accepted in (sym a.1, a.0)
 
-pub returns-in-Accepted : goal.returns-in-Accepted
+pub returns : goal.returns
 unfolding bundle_checks reading_parameters
-returns-in-Accepted c =
-    let head_is : made c.read_bundle_head.result ≡ outcome (count_checks (file (goal.at.returns-in-Accepted c).Start)) (head_of (file (goal.at.returns-in-Accepted c).Start)) = c.read_bundle_head.ensures in
-    let accepted : Passes (count_checks (file (goal.at.returns-in-Accepted c).Start)) × (head_of (file (goal.at.returns-in-Accepted c).Start) ≡ set_of c.in-Accepted.p) = made_accepted (count_checks (file (goal.at.returns-in-Accepted c).Start)) (head_of (file (goal.at.returns-in-Accepted c).Start)) c.in-Accepted.p (sym (ap made c.in-Accepted.is) ∙ head_is) in
-    c.judged.ensures ∙ sym (passed_all (count_checks (file (goal.at.returns-in-Accepted c).Start)) (entries_checks (head_of (file (goal.at.returns-in-Accepted c).Start)) (entries_of (file (goal.at.returns-in-Accepted c).Start))) (head_of (file (goal.at.returns-in-Accepted c).Start)) accepted.0)
+returns c =
+    let head_is : made c.read_bundle_head.result ≡ outcome (count_checks (file (goal.at.returns c).Start)) (head_of (file (goal.at.returns c).Start)) = c.read_bundle_head.ensures in
+    let accepted : Passes (count_checks (file (goal.at.returns c).Start)) × (head_of (file (goal.at.returns c).Start) ≡ set_of c.in_ok-read_bundle_head.p) = made_accepted (count_checks (file (goal.at.returns c).Start)) (head_of (file (goal.at.returns c).Start)) c.in_ok-read_bundle_head.p (sym (ap made c.in_ok-read_bundle_head.was) ∙ head_is) in
+    c.judged.ensures ∙ sym (passed_all (count_checks (file (goal.at.returns c).Start)) (entries_checks (head_of (file (goal.at.returns c).Start)) (entries_of (file (goal.at.returns c).Start))) (head_of (file (goal.at.returns c).Start)) accepted.0)
 
-pub returns-in-Refused : goal.returns-in-Refused
+pub returns-in_err-read_bundle_head : goal.returns-in_err-read_bundle_head
 unfolding bundle_checks reading_parameters
-returns-in-Refused c =
-    let head_is : made c.read_bundle_head.result ≡ outcome (count_checks (file (goal.at.returns-in-Refused c).Start)) (head_of (file (goal.at.returns-in-Refused c).Start)) = c.read_bundle_head.ensures in
+returns-in_err-read_bundle_head c =
+    let head_is : made c.read_bundle_head.result ≡ outcome (count_checks (file (goal.at.returns-in_err-read_bundle_head c).Start)) (head_of (file (goal.at.returns-in_err-read_bundle_head c).Start)) = c.read_bundle_head.ensures in
     sym
-    (refused_first (count_checks (file (goal.at.returns-in-Refused c).Start)) (entries_checks (head_of (file (goal.at.returns-in-Refused c).Start)) (entries_of (file (goal.at.returns-in-Refused c).Start))) (head_of (file (goal.at.returns-in-Refused c).Start)) _
-    (made_refused (count_checks (file (goal.at.returns-in-Refused c).Start)) (head_of (file (goal.at.returns-in-Refused c).Start)) c.in-Refused.refusal (sym (ap made c.in-Refused.is) ∙ head_is)))
+    (refused_first (count_checks (file (goal.at.returns-in_err-read_bundle_head c).Start)) (entries_checks (head_of (file (goal.at.returns-in_err-read_bundle_head c).Start)) (entries_of (file (goal.at.returns-in_err-read_bundle_head c).Start))) (head_of (file (goal.at.returns-in_err-read_bundle_head c).Start)) _
+    (made_refused (count_checks (file (goal.at.returns-in_err-read_bundle_head c).Start)) (head_of (file (goal.at.returns-in_err-read_bundle_head c).Start)) c.in_err-read_bundle_head.refusal (sym (ap made c.in_err-read_bundle_head.was) ∙ head_is)))

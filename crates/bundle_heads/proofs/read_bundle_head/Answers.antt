@@ -19,20 +19,20 @@ use Rattle.bundle_heads.proofs.read_bundle_head.Goals as goal
 abbrev length_check : List ℕ → ParameterSet → List Check
 length_check file p = 7 if not (right_length p.N (count_of file) (length file)) ∷ []
 
-pub returns-in-Accepted : goal.returns-in-Accepted
+pub returns : goal.returns
 unfolding reading_parameters count_checks reading_head
-returns-in-Accepted c =
+returns c =
     let head_is : let file = c.args.file.now in made c.read_head.result ≡ outcome (bundle_head_checks file) (head_of file) = c.read_head.ensures in
     let file = c.args.file.now in
-    let p = c.in-Accepted.p in
-    let k = made_accepted (bundle_head_checks file) (head_of file) p (sym (ap made c.in-Accepted.is) ∙ head_is) in
+    let p = c.in_ok-read_head.p in
+    let k = made_accepted (bundle_head_checks file) (head_of file) p (sym (ap made c.in_ok-read_head.was) ∙ head_is) in
     c.counted.ensures
     ∙ ap (λ (q : ParameterSet). outcome (length_check file q) q) (sym k.1)
     ∙ sym (passed_all (bundle_head_checks file) (length_check file (head_of file)) (head_of file) k.0)
 
-pub returns-in-Refused : goal.returns-in-Refused
+pub returns-in_err-read_head : goal.returns-in_err-read_head
 unfolding reading_parameters count_checks reading_head
-returns-in-Refused c =
+returns-in_err-read_head c =
     let head_is : let file = c.args.file.now in made c.read_head.result ≡ outcome (bundle_head_checks file) (head_of file) = c.read_head.ensures in
     let file = c.args.file.now in
-    sym (refused_first (bundle_head_checks file) (length_check file (head_of file)) (head_of file) _ (made_refused (bundle_head_checks file) (head_of file) c.in-Refused.refusal (sym (ap made c.in-Refused.is) ∙ head_is)))
+    sym (refused_first (bundle_head_checks file) (length_check file (head_of file)) (head_of file) _ (made_refused (bundle_head_checks file) (head_of file) c.in_err-read_head.refusal (sym (ap made c.in_err-read_head.was) ∙ head_is)))

@@ -23,20 +23,20 @@ pub read_entries-requires : goal.read_entries-requires
 unfolding reading_stops reading_numbers reading_checks reading_parameters
 read_entries-requires c =
     let head_is : made c.read_bundle_head.result ≡ outcome (count_checks (file (goal.at.read_entries-requires c).Start)) (head_of (file (goal.at.read_entries-requires c).Start)) = c.read_bundle_head.ensures in
-    let accepted : Passes (count_checks (file (goal.at.read_entries-requires c).Start)) × (head_of (file (goal.at.read_entries-requires c).Start) ≡ set_of c.in-Accepted.p) = made_accepted (count_checks (file (goal.at.read_entries-requires c).Start)) (head_of (file (goal.at.read_entries-requires c).Start)) c.in-Accepted.p (sym (ap made c.in-Accepted.is) ∙ head_is) in
+    let accepted : Passes (count_checks (file (goal.at.read_entries-requires c).Start)) × (head_of (file (goal.at.read_entries-requires c).Start) ≡ set_of c.in_ok-read_bundle_head.p) = made_accepted (count_checks (file (goal.at.read_entries-requires c).Start)) (head_of (file (goal.at.read_entries-requires c).Start)) c.in_ok-read_bundle_head.p (sym (ap made c.in_ok-read_bundle_head.was) ∙ head_is) in
     let a = accepted in (sym a.1, a.0)
 
-pub returns-in-Accepted : goal.returns-in-Accepted
+pub returns : goal.returns
 unfolding reading_stops reading_numbers reading_checks reading_parameters
-returns-in-Accepted c =
-    let head_is : made c.read_bundle_head.result ≡ outcome (count_checks (file (goal.at.returns-in-Accepted c).Start)) (head_of (file (goal.at.returns-in-Accepted c).Start)) = c.read_bundle_head.ensures in
-    let accepted : Passes (count_checks (file (goal.at.returns-in-Accepted c).Start)) × (head_of (file (goal.at.returns-in-Accepted c).Start) ≡ set_of c.in-Accepted.p) = made_accepted (count_checks (file (goal.at.returns-in-Accepted c).Start)) (head_of (file (goal.at.returns-in-Accepted c).Start)) c.in-Accepted.p (sym (ap made c.in-Accepted.is) ∙ head_is) in
+returns c =
+    let head_is : made c.read_bundle_head.result ≡ outcome (count_checks (file (goal.at.returns c).Start)) (head_of (file (goal.at.returns c).Start)) = c.read_bundle_head.ensures in
+    let accepted : Passes (count_checks (file (goal.at.returns c).Start)) × (head_of (file (goal.at.returns c).Start) ≡ set_of c.in_ok-read_bundle_head.p) = made_accepted (count_checks (file (goal.at.returns c).Start)) (head_of (file (goal.at.returns c).Start)) c.in_ok-read_bundle_head.p (sym (ap made c.in_ok-read_bundle_head.was) ∙ head_is) in
     let e = c.read_entries.ensures in
-    record { gives = gives_same c.args.stops.now (passed_all (count_checks (file (goal.at.returns-in-Accepted c).Start)) (outputs (goal.at.returns-in-Accepted c).Start) _ accepted.0) e.gives; gives_2 = gives_same c.args.numbers.now (passed_all (count_checks (file (goal.at.returns-in-Accepted c).Start)) (outputs (goal.at.returns-in-Accepted c).Start) _ accepted.0) e.gives_2 }
+    record { gives = gives_same c.args.stops.now (passed_all (count_checks (file (goal.at.returns c).Start)) (outputs (goal.at.returns c).Start) _ accepted.0) e.gives; gives_2 = gives_same c.args.numbers.now (passed_all (count_checks (file (goal.at.returns c).Start)) (outputs (goal.at.returns c).Start) _ accepted.0) e.gives_2 }
 
-pub returns-in-Refused : goal.returns-in-Refused
+pub returns-in_err-read_bundle_head : goal.returns-in_err-read_bundle_head
 unfolding reading_stops reading_numbers reading_checks reading_parameters
-returns-in-Refused c =
-    let head_is : made c.read_bundle_head.result ≡ outcome (count_checks (file (goal.at.returns-in-Refused c).Start)) (head_of (file (goal.at.returns-in-Refused c).Start)) = c.read_bundle_head.ensures in
-    let f = refused_first (count_checks (file (goal.at.returns-in-Refused c).Start)) (outputs (goal.at.returns-in-Refused c).Start) tt _ (made_refused (count_checks (file (goal.at.returns-in-Refused c).Start)) (head_of (file (goal.at.returns-in-Refused c).Start)) c.in-Refused.refusal (sym (ap made c.in-Refused.is) ∙ head_is)) in
-    record { gives = gives_refused (count_checks (file (goal.at.returns-in-Refused c).Start) ++ outputs (goal.at.returns-in-Refused c).Start) _ c.args.stops.now _ f; gives_2 = gives_refused (count_checks (file (goal.at.returns-in-Refused c).Start) ++ outputs (goal.at.returns-in-Refused c).Start) _ c.args.numbers.now _ f }
+returns-in_err-read_bundle_head c =
+    let head_is : made c.read_bundle_head.result ≡ outcome (count_checks (file (goal.at.returns-in_err-read_bundle_head c).Start)) (head_of (file (goal.at.returns-in_err-read_bundle_head c).Start)) = c.read_bundle_head.ensures in
+    let f = refused_first (count_checks (file (goal.at.returns-in_err-read_bundle_head c).Start)) (outputs (goal.at.returns-in_err-read_bundle_head c).Start) tt _ (made_refused (count_checks (file (goal.at.returns-in_err-read_bundle_head c).Start)) (head_of (file (goal.at.returns-in_err-read_bundle_head c).Start)) c.in_err-read_bundle_head.refusal (sym (ap made c.in_err-read_bundle_head.was) ∙ head_is)) in
+    record { gives = gives_refused (count_checks (file (goal.at.returns-in_err-read_bundle_head c).Start) ++ outputs (goal.at.returns-in_err-read_bundle_head c).Start) _ c.args.stops.now _ f; gives_2 = gives_refused (count_checks (file (goal.at.returns-in_err-read_bundle_head c).Start) ++ outputs (goal.at.returns-in_err-read_bundle_head c).Start) _ c.args.numbers.now _ f }

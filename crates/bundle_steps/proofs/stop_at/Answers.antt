@@ -1,8 +1,8 @@
 -- `stop_at` meets its contract.
+use Rattle.std.specs.Prelude.{Some}
 use mathlib.Core.Path.{sym, ◌∙◌, ap}
 use borrow.Author.Rules.{rules}
 use borrow.Author.Tests.{not-true, not-false}
-use Rattle.bundles.specs.declared.Stop.TheVariants.{Number}
 use Rattle.bundles.proofs.Steps.{stop_here, stop_past}
 use Rattle.bundle_steps.proofs.stop_at.Goals as goal
 
@@ -10,4 +10,4 @@ pub returns-then-not-stands_at : goal.returns-then-not-stands_at
 returns-then-not-stands_at c = sym (stop_past _ _ (sym c.stands_at.ensures ∙ c.if-not-stands_at.true))
 
 pub returns : goal.returns
-returns c = ap Number c.stop_in.ensures.0 ∙ sym (stop_here _ _ (sym c.stands_at.ensures ∙ c.if-not-stands_at.false))
+returns c = ap Some c.stop_in.ensures.0 ∙ sym (stop_here _ _ (sym c.stands_at.ensures ∙ c.if-not-stands_at.false))

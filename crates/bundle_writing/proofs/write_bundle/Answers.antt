@@ -10,10 +10,10 @@ use Rattle.parameters.specs.Sets.{set_of, parameter_checks}
 use Rattle.bundles.specs.Calls.{given_checks, writing_checks, writing_bundle}
 use Rattle.bundle_writing.proofs.write_bundle.Goals as goal
 
-pub returns-in-Refused : goal.returns-in-Refused
+pub returns-in_err-check : goal.returns-in_err-check
 unfolding writing_bundle writing_checks
-returns-in-Refused c =
+returns-in_err-check c =
     let checked : answered c.check.result ≡ outcome (parameter_checks (set_of c.args.p)) (tt {0}) = c.check.ensures in
     let p = set_of c.args.p in
     let rest = given_checks p c.args.stops.now c.args.numbers.now (length c.args.file.now) in
-    gives_refused (parameter_checks p ++ rest) _ c.args.file.now _ (refused_first (parameter_checks p) rest tt _ (sym checked ∙ ap answered c.in-Refused.is))
+    gives_refused (parameter_checks p ++ rest) _ c.args.file.now _ (refused_first (parameter_checks p) rest tt _ (sym checked ∙ ap answered c.in_err-check.was))

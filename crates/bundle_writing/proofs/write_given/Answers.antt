@@ -31,7 +31,7 @@ whole s = passed_all (parameter_checks (set_of s.args.p)) (checks s) tt s.requir
 pub write_file-requires : goal.write_file-requires
 unfolding writing_bundle
 write_file-requires c =
-    let all_passed : Passes (writing_checks (set_of c.args.p) c.args.stops.now c.args.numbers.now (room (goal.at.write_file-requires c).Start)) = whole (goal.at.write_file-requires c).Start ∙ sym c.given_refusal.ensures ∙ ap answered c.in-Done.is in
+    let all_passed : Passes (writing_checks (set_of c.args.p) c.args.stops.now c.args.numbers.now (room (goal.at.write_file-requires c).Start)) = whole (goal.at.write_file-requires c).Start ∙ sym c.given_refusal.ensures ∙ ap answered c.in_ok-given_refusal.was in
     let written_by : Written (set_of c.args.p) c.args.stops.now c.args.numbers.now (room (goal.at.write_file-requires c).Start) = writing_passed (set_of c.args.p) c.args.stops.now c.args.numbers.now (room (goal.at.write_file-requires c).Start) all_passed in
     let small : Small c.args.numbers.now = let p = set_of c.args.p in
     let w = written_by in
@@ -39,12 +39,12 @@ write_file-requires c =
     subst Small (given_numbers p.N c.args.stops.now c.args.numbers.now w.numbers_are) (small_numbers p es (accepted_parameters p w.accepted) (given_full p.N c.args.stops.now c.args.numbers.now w.numbers_are) (entries_parts p es w.entries).1) in
     let w = written_by in record { passes = (w.accepted, w.numbers_are); file_len = (w.right_length_lem.is, w.right_length_lem.short, small) }
 
-pub returns-in-Done : goal.returns-in-Done
+pub returns : goal.returns
 unfolding writing_bundle
-returns-in-Done c =
-    let all_passed : Passes (writing_checks (set_of c.args.p) c.args.stops.now c.args.numbers.now (room (goal.at.returns-in-Done c).Start)) = whole (goal.at.returns-in-Done c).Start ∙ sym c.given_refusal.ensures ∙ ap answered c.in-Done.is in
-    gives_done (writing_checks (set_of c.args.p) c.args.stops.now c.args.numbers.now (room (goal.at.returns-in-Done c).Start)) _ c.args.file.now _ all_passed c.write_file.ensures
+returns c =
+    let all_passed : Passes (writing_checks (set_of c.args.p) c.args.stops.now c.args.numbers.now (room (goal.at.returns c).Start)) = whole (goal.at.returns c).Start ∙ sym c.given_refusal.ensures ∙ ap answered c.in_ok-given_refusal.was in
+    gives_done (writing_checks (set_of c.args.p) c.args.stops.now c.args.numbers.now (room (goal.at.returns c).Start)) _ c.args.file.now _ all_passed c.write_file.ensures
 
-pub returns-in-Refused : goal.returns-in-Refused
+pub returns-in_err-given_refusal : goal.returns-in_err-given_refusal
 unfolding writing_bundle
-returns-in-Refused c = gives_refused (writing_checks (set_of c.args.p) c.args.stops.now c.args.numbers.now (room (goal.at.returns-in-Refused c).Start)) _ c.args.file.now _ (whole (goal.at.returns-in-Refused c).Start ∙ sym c.given_refusal.ensures ∙ ap answered c.in-Refused.is)
+returns-in_err-given_refusal c = gives_refused (writing_checks (set_of c.args.p) c.args.stops.now c.args.numbers.now (room (goal.at.returns-in_err-given_refusal c).Start)) _ c.args.file.now _ (whole (goal.at.returns-in_err-given_refusal c).Start ∙ sym c.given_refusal.ensures ∙ ap answered c.in_err-given_refusal.was)

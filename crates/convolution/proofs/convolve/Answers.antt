@@ -44,26 +44,26 @@ refused_any {A} {B} cs a b n e = outcome_carried (λ (_ : A). b) cs a ∙ ap (ca
 pub convolve_unless-requires : goal.convolve_unless-requires
 unfolding convolving beginning
 convolve_unless-requires c =
-    let formed : Bool = c.in-Passed.formed in
-    let told : outcome (checks (goal.at.convolve_unless-requires c).Start) (leb (P (goal.at.convolve_unless-requires c).Start).N 16) ≡ done formed = sym c.convolve_up_to_16.ensures.0 ∙ ap answered c.in-Passed.is in
+    let formed : Bool = c.in_ok-convolve_up_to_16.formed in
+    let told : outcome (checks (goal.at.convolve_unless-requires c).Start) (leb (P (goal.at.convolve_unless-requires c).Start).N 16) ≡ done formed = sym c.convolve_up_to_16.ensures.0 ∙ ap answered c.in_ok-convolve_up_to_16.was in
     let all_passed : Passes (checks (goal.at.convolve_unless-requires c).Start) × (leb (P (goal.at.convolve_unless-requires c).Start).N 16 ≡ formed) = done_parts (checks (goal.at.convolve_unless-requires c).Start) (leb (P (goal.at.convolve_unless-requires c).Start).N 16) formed told in
     let o = c.convolve_up_to_16 in
     (sym all_passed.1, convolvable_handed (P (goal.at.convolve_unless-requires c).Start).N c.args.x.now c.args.y.now o.new.out (search rules) (search rules) (convolvable_to o.new.out o.auto.out (convolving_passed (P (goal.at.convolve_unless-requires c).Start) c.args.x.now c.args.y.now c.args.out.now all_passed.0)))
 
-pub returns-in-Passed : goal.returns-in-Passed
+pub returns : goal.returns
 unfolding convolving beginning
-returns-in-Passed c =
-    let formed : Bool = c.in-Passed.formed in
-    let told : outcome (checks (goal.at.returns-in-Passed c).Start) (leb (P (goal.at.returns-in-Passed c).Start).N 16) ≡ done formed = sym c.convolve_up_to_16.ensures.0 ∙ ap answered c.in-Passed.is in
-    let all_passed : Passes (checks (goal.at.returns-in-Passed c).Start) × (leb (P (goal.at.returns-in-Passed c).Start).N 16 ≡ formed) = done_parts (checks (goal.at.returns-in-Passed c).Start) (leb (P (goal.at.returns-in-Passed c).Start).N 16) formed told in
+returns c =
+    let formed : Bool = c.in_ok-convolve_up_to_16.formed in
+    let told : outcome (checks (goal.at.returns c).Start) (leb (P (goal.at.returns c).Start).N 16) ≡ done formed = sym c.convolve_up_to_16.ensures.0 ∙ ap answered c.in_ok-convolve_up_to_16.was in
+    let all_passed : Passes (checks (goal.at.returns c).Start) × (leb (P (goal.at.returns c).Start).N 16 ≡ formed) = done_parts (checks (goal.at.returns c).Start) (leb (P (goal.at.returns c).Start).N 16) formed told in
     let begun = c.convolve_up_to_16 in
-    let v = value_of (goal.at.returns-in-Passed c).Start (P (goal.at.returns-in-Passed c).Start).q in
-    let o = done_with (checks (goal.at.returns-in-Passed c).Start) v all_passed.0 in
-    (sym (ap number o), either formed v c.args.out.now (begun.ensures.1 ∙ ap (λ (x : Outcome Bool). left x v c.args.out.now) told) (c.convolve_unless.ensures ∙ ap (λ (q : ℤ[ω]). cond formed begun.new.out (value_of (goal.at.returns-in-Passed c).Start q)) (pair_read {w = w32} (search rules) (search rules))) ∙ sym (ap (λ (x : Outcome (List ℤ)). written x c.args.out.now) o))
+    let v = value_of (goal.at.returns c).Start (P (goal.at.returns c).Start).q in
+    let o = done_with (checks (goal.at.returns c).Start) v all_passed.0 in
+    (sym (ap number o), either formed v c.args.out.now (begun.ensures.1 ∙ ap (λ (x : Outcome Bool). left x v c.args.out.now) told) (c.convolve_unless.ensures ∙ ap (λ (q : ℤ[ω]). cond formed begun.new.out (value_of (goal.at.returns c).Start q)) (pair_read {w = w32} (search rules) (search rules))) ∙ sym (ap (λ (x : Outcome (List ℤ)). written x c.args.out.now) o))
 
-pub returns-in-Refused : goal.returns-in-Refused
+pub returns-in_err-convolve_up_to_16 : goal.returns-in_err-convolve_up_to_16
 unfolding convolving beginning
-returns-in-Refused c = let v = value_of (goal.at.returns-in-Refused c).Start (P (goal.at.returns-in-Refused c).Start).q in
-    let e = sym c.convolve_up_to_16.ensures.0 ∙ ap answered c.in-Refused.is in
-    let o = refused_any (checks (goal.at.returns-in-Refused c).Start) (leb (P (goal.at.returns-in-Refused c).Start).N 16) v _ e in
+returns-in_err-convolve_up_to_16 c = let v = value_of (goal.at.returns-in_err-convolve_up_to_16 c).Start (P (goal.at.returns-in_err-convolve_up_to_16 c).Start).q in
+    let e = sym c.convolve_up_to_16.ensures.0 ∙ ap answered c.in_err-convolve_up_to_16.was in
+    let o = refused_any (checks (goal.at.returns-in_err-convolve_up_to_16 c).Start) (leb (P (goal.at.returns-in_err-convolve_up_to_16 c).Start).N 16) v _ e in
     (sym (ap number o), c.convolve_up_to_16.ensures.1 ∙ ap (λ (x : Outcome Bool). left x v c.args.out.now) e ∙ sym (ap (λ (x : Outcome (List ℤ)). written x c.args.out.now) o))

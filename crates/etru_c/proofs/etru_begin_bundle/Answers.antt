@@ -9,14 +9,14 @@ use Rattle.bundles.specs.Steps.{start_of}
 use Rattle.bundles.proofs.MadeParameters.{made_accepted, made_refused}
 use Rattle.etru_c.proofs.etru_begin_bundle.Goals as goal
 
-pub returns-in-Accepted : goal.returns-in-Accepted
-returns-in-Accepted c = let file = c.args.file.now in
-    let e = sym (ap made c.in-Accepted.is) ∙ c.begin-start.ensures.1 in
-    let passes = (made_accepted (bundle_checks file) (head_of file) c.in-Accepted.p e).0 in
+pub returns-in-Ok : goal.returns-in-Ok
+returns-in-Ok c = let file = c.args.file.now in
+    let e = sym (ap made c.in-Ok.is) ∙ c.begin-start.ensures.1 in
+    let passes = (made_accepted (bundle_checks file) (head_of file) c.in-Ok.p e).0 in
     gives_done (bundle_checks file) _ c.args.at.now _ passes c.begin-start.ensures.0
 
-pub returns-in-Refused : goal.returns-in-Refused
-returns-in-Refused c = let file = c.args.file.now in
-    let e = sym (ap made c.in-Refused.is) ∙ c.begin-start.ensures.1 in
-    let g = gives_refused (bundle_checks file) (start_of file) c.args.at.now _ (made_refused (bundle_checks file) (head_of file) c.in-Refused.refusal e) in
+pub returns-in-Err : goal.returns-in-Err
+returns-in-Err c = let file = c.args.file.now in
+    let e = sym (ap made c.in-Err.is) ∙ c.begin-start.ensures.1 in
+    let g = gives_refused (bundle_checks file) (start_of file) c.args.at.now _ (made_refused (bundle_checks file) (head_of file) c.in-Err.refusal e) in
     (c.number.ensures ∙ g.0, g.1)

@@ -33,17 +33,17 @@ from_parameters s = parameter_checks (P s) ++ content s
 pub returns-then-not-known_kind : goal.returns-then-not-known_kind
 returns-then-not-known_kind c = gives_same c.args.file.now (kind_refused c.args.kind (P (goal.at.returns-then-not-known_kind c).Start) c.args.numbers.now (length c.args.file.now) c.known_kind.ensures (ap not c.if-not-known_kind.true)) (refl, refl)
 
-pub returns-in-Done : goal.returns-in-Done
-returns-in-Done c =
-    let check_is : answered c.check.result ≡ outcome (parameter_checks (P (goal.at.returns-in-Done c).Start)) (tt {0}) = c.check.ensures in
-    let accepted : Passes (parameter_checks (P (goal.at.returns-in-Done c).Start)) = sym check_is ∙ ap answered c.in-Done.is in
-    let after_19 : whole (goal.at.returns-in-Done c).Start ≡ outcome (from_parameters (goal.at.returns-in-Done c).Start) (value_of (goal.at.returns-in-Done c).Start) = kind_passed c.args.kind (P (goal.at.returns-in-Done c).Start) c.args.numbers.now (length c.args.file.now) c.known_kind.ensures (ap not c.if-not-known_kind.false) in
-    gives_same c.args.file.now (after_19 ∙ passed_all (parameter_checks (P (goal.at.returns-in-Done c).Start)) (content (goal.at.returns-in-Done c).Start) (value_of (goal.at.returns-in-Done c).Start) accepted) c.write_content.ensures
+pub returns : goal.returns
+returns c =
+    let check_is : answered c.check.result ≡ outcome (parameter_checks (P (goal.at.returns c).Start)) (tt {0}) = c.check.ensures in
+    let accepted : Passes (parameter_checks (P (goal.at.returns c).Start)) = sym check_is ∙ ap answered c.in_ok-check.was in
+    let after_19 : whole (goal.at.returns c).Start ≡ outcome (from_parameters (goal.at.returns c).Start) (value_of (goal.at.returns c).Start) = kind_passed c.args.kind (P (goal.at.returns c).Start) c.args.numbers.now (length c.args.file.now) c.known_kind.ensures (ap not c.if-not-known_kind.false) in
+    gives_same c.args.file.now (after_19 ∙ passed_all (parameter_checks (P (goal.at.returns c).Start)) (content (goal.at.returns c).Start) (value_of (goal.at.returns c).Start) accepted) c.write_content.ensures
 
-pub returns-in-Refused : goal.returns-in-Refused
-returns-in-Refused c =
-    let check_is : answered c.check.result ≡ outcome (parameter_checks (P (goal.at.returns-in-Refused c).Start)) (tt {0}) = c.check.ensures in
-    let after_19 : whole (goal.at.returns-in-Refused c).Start ≡ outcome (from_parameters (goal.at.returns-in-Refused c).Start) (value_of (goal.at.returns-in-Refused c).Start) = kind_passed c.args.kind (P (goal.at.returns-in-Refused c).Start) c.args.numbers.now (length c.args.file.now) c.known_kind.ensures (ap not c.if-not-known_kind.false) in
+pub returns-in_err-check : goal.returns-in_err-check
+returns-in_err-check c =
+    let check_is : answered c.check.result ≡ outcome (parameter_checks (P (goal.at.returns-in_err-check c).Start)) (tt {0}) = c.check.ensures in
+    let after_19 : whole (goal.at.returns-in_err-check c).Start ≡ outcome (from_parameters (goal.at.returns-in_err-check c).Start) (value_of (goal.at.returns-in_err-check c).Start) = kind_passed c.args.kind (P (goal.at.returns-in_err-check c).Start) c.args.numbers.now (length c.args.file.now) c.known_kind.ensures (ap not c.if-not-known_kind.false) in
     gives_same c.args.file.now
-    (after_19 ∙ refused_first (parameter_checks (P (goal.at.returns-in-Refused c).Start)) (content (goal.at.returns-in-Refused c).Start) (value_of (goal.at.returns-in-Refused c).Start) _ (sym check_is ∙ ap answered c.in-Refused.is))
+    (after_19 ∙ refused_first (parameter_checks (P (goal.at.returns-in_err-check c).Start)) (content (goal.at.returns-in_err-check c).Start) (value_of (goal.at.returns-in_err-check c).Start) _ (sym check_is ∙ ap answered c.in_err-check.was))
     (refl, refl)

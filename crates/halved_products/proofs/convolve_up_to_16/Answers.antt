@@ -35,21 +35,21 @@ module _ (p : ParameterSet) (x y out : List ℤ) where
 pub convolve_few-requires : goal.convolve_few-requires
 convolve_few-requires c =
     let p = set_of c.args.p in
-    convolvable_handed p.N c.args.x.now c.args.y.now c.args.out.now (search rules) (search rules) (convolving_passed p c.args.x.now c.args.y.now c.args.out.now (sym c.convolving_refusal.ensures ∙ ap answer c.in-Done.is))
+    convolvable_handed p.N c.args.x.now c.args.y.now c.args.out.now (search rules) (search rules) (convolving_passed p c.args.x.now c.args.y.now c.args.out.now (sym c.convolving_refusal.ensures ∙ ap answer c.in_ok-convolving_refusal.was))
 
-pub returns-in-Done : goal.returns-in-Done
+pub returns : goal.returns
 unfolding beginning
-returns-in-Done c =
+returns c =
     let p = set_of c.args.p in
     let few = c.convolve_few.ensures in
-    let o = done_with (checks p c.args.x.now c.args.y.now c.args.out.now) (leb p.N 16) (sym c.convolving_refusal.ensures ∙ ap answer c.in-Done.is) in (
+    let o = done_with (checks p c.args.x.now c.args.y.now c.args.out.now) (leb p.N 16) (sym c.convolving_refusal.ensures ∙ ap answer c.in_ok-convolving_refusal.was) in (
       ap done few.0 ∙ sym o,
       few.1 ∙ ap (λ (q : ℤ[ω]). cond (leb p.N 16) (value_of p c.args.x.now c.args.y.now c.args.out.now q) c.args.out.now) (pair_read {w = w32} {a = c.args.p.c} {b = c.args.p.d} (search rules) (search rules)) ∙ left_by p c.args.x.now c.args.y.now c.args.out.now o,
     )
 
-pub returns-in-Refused : goal.returns-in-Refused
+pub returns-in_err-convolving_refusal : goal.returns-in_err-convolving_refusal
 unfolding beginning
-returns-in-Refused c =
+returns-in_err-convolving_refusal c =
     let p = set_of c.args.p in
-    let o = refused_with (checks p c.args.x.now c.args.y.now c.args.out.now) (leb p.N 16) _ (sym c.convolving_refusal.ensures ∙ ap answer c.in-Refused.is) in
+    let o = refused_with (checks p c.args.x.now c.args.y.now c.args.out.now) (leb p.N 16) _ (sym c.convolving_refusal.ensures ∙ ap answer c.in_err-convolving_refusal.was) in
     (sym o, left_by p c.args.x.now c.args.y.now c.args.out.now o)

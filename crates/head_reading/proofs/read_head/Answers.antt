@@ -14,19 +14,19 @@ pub head_parameters-requires : goal.head_parameters-requires
 unfolding reading_head parameters
 head_parameters-requires c =
     let refusal_is : answered c.head_refusal.result ≡ outcome (head_checks c.args.kind c.args.file.now) (tt {0}) = c.head_refusal.ensures in
-    let passed : Passes (head_checks c.args.kind c.args.file.now) = sym refusal_is ∙ ap answered c.in-Done.is in
+    let passed : Passes (head_checks c.args.kind c.args.file.now) = sym refusal_is ∙ ap answered c.in_ok-head_refusal.was in
     (head_passed c.args.kind c.args.file.now passed).long
 
-pub returns-in-Done : goal.returns-in-Done
+pub returns : goal.returns
 unfolding reading_head parameters
-returns-in-Done c =
+returns c =
     let refusal_is : answered c.head_refusal.result ≡ outcome (head_checks c.args.kind c.args.file.now) (tt {0}) = c.head_refusal.ensures in
-    let passed : Passes (head_checks c.args.kind c.args.file.now) = sym refusal_is ∙ ap answered c.in-Done.is in
+    let passed : Passes (head_checks c.args.kind c.args.file.now) = sym refusal_is ∙ ap answered c.in_ok-head_refusal.was in
     c.head_parameters.ensures
     ∙ sym (passed_all (head_checks c.args.kind c.args.file.now) (parameter_checks (head_of c.args.file.now)) (head_of c.args.file.now) passed)
 
-pub returns-in-Refused : goal.returns-in-Refused
+pub returns-in_err-head_refusal : goal.returns-in_err-head_refusal
 unfolding reading_head parameters
-returns-in-Refused c =
+returns-in_err-head_refusal c =
     let refusal_is : answered c.head_refusal.result ≡ outcome (head_checks c.args.kind c.args.file.now) (tt {0}) = c.head_refusal.ensures in
-    sym (refused_first (head_checks c.args.kind c.args.file.now) (parameter_checks (head_of c.args.file.now)) (head_of c.args.file.now) _ (sym refusal_is ∙ ap answered c.in-Refused.is))
+    sym (refused_first (head_checks c.args.kind c.args.file.now) (parameter_checks (head_of c.args.file.now)) (head_of c.args.file.now) _ (sym refusal_is ∙ ap answered c.in_err-head_refusal.was))

@@ -24,18 +24,18 @@ pub write_bytes-requires : goal.write_bytes-requires
 unfolding writing_head
 write_bytes-requires c =
     let refusal_is : answered c.writing_refusal.result ≡ outcome (checks (goal.at.write_bytes-requires c).Start) (tt {0}) = c.writing_refusal.ensures in
-    let all_passed : Passes (checks (goal.at.write_bytes-requires c).Start) = sym refusal_is ∙ ap answered c.in-Done.is in
+    let all_passed : Passes (checks (goal.at.write_bytes-requires c).Start) = sym refusal_is ∙ ap answered c.in_ok-writing_refusal.was in
     writing_passed c.args.kind (set_of c.args.p) (length c.args.file.now) all_passed
 
-pub returns-in-Done : goal.returns-in-Done
+pub returns : goal.returns
 unfolding writing_head
-returns-in-Done c =
-    let refusal_is : answered c.writing_refusal.result ≡ outcome (checks (goal.at.returns-in-Done c).Start) (tt {0}) = c.writing_refusal.ensures in
-    let all_passed : Passes (checks (goal.at.returns-in-Done c).Start) = sym refusal_is ∙ ap answered c.in-Done.is in
-    gives_same c.args.file.now (done_with (checks (goal.at.returns-in-Done c).Start) (value_of (goal.at.returns-in-Done c).Start) all_passed) (refl, c.write_bytes.ensures)
+returns c =
+    let refusal_is : answered c.writing_refusal.result ≡ outcome (checks (goal.at.returns c).Start) (tt {0}) = c.writing_refusal.ensures in
+    let all_passed : Passes (checks (goal.at.returns c).Start) = sym refusal_is ∙ ap answered c.in_ok-writing_refusal.was in
+    gives_same c.args.file.now (done_with (checks (goal.at.returns c).Start) (value_of (goal.at.returns c).Start) all_passed) (refl, c.write_bytes.ensures)
 
-pub returns-in-Refused : goal.returns-in-Refused
+pub returns-in_err-writing_refusal : goal.returns-in_err-writing_refusal
 unfolding writing_head
-returns-in-Refused c =
-    let refusal_is : answered c.writing_refusal.result ≡ outcome (checks (goal.at.returns-in-Refused c).Start) (tt {0}) = c.writing_refusal.ensures in
-    gives_same c.args.file.now (refused_with (checks (goal.at.returns-in-Refused c).Start) (value_of (goal.at.returns-in-Refused c).Start) _ (sym refusal_is ∙ ap answered c.in-Refused.is)) (refl, refl)
+returns-in_err-writing_refusal c =
+    let refusal_is : answered c.writing_refusal.result ≡ outcome (checks (goal.at.returns-in_err-writing_refusal c).Start) (tt {0}) = c.writing_refusal.ensures in
+    gives_same c.args.file.now (refused_with (checks (goal.at.returns-in_err-writing_refusal c).Start) (value_of (goal.at.returns-in_err-writing_refusal c).Start) _ (sym refusal_is ∙ ap answered c.in_err-writing_refusal.was)) (refl, refl)

@@ -20,12 +20,12 @@ checks s = parameter_checks (set_of s.args.p) ++ key_checks (set_of s.args.p) s.
 abbrev value_of : Start → List ℤ
 value_of s = array s.args.p.n (public_key (set_of s.args.p) (coefficient s.args.fq.now) (coefficient s.args.g.now))
 
-pub returns-in-Done : goal.returns-in-Done
+pub returns : goal.returns
 unfolding key_check
-returns-in-Done c =
-    let all_passed : Passes (checks (goal.at.returns-in-Done c).Start) = sym c.key_refusal.ensures ∙ ap answered c.in-Done.is in
-    gives_done (checks (goal.at.returns-in-Done c).Start) (value_of (goal.at.returns-in-Done c).Start) c.args.h.now _ all_passed c.write_public_key.ensures
+returns c =
+    let all_passed : Passes (checks (goal.at.returns c).Start) = sym c.key_refusal.ensures ∙ ap answered c.in_ok-key_refusal.was in
+    gives_done (checks (goal.at.returns c).Start) (value_of (goal.at.returns c).Start) c.args.h.now _ all_passed c.write_public_key.ensures
 
-pub returns-in-Refused : goal.returns-in-Refused
+pub returns-in_err-key_refusal : goal.returns-in_err-key_refusal
 unfolding key_check
-returns-in-Refused c = gives_refused (checks (goal.at.returns-in-Refused c).Start) (value_of (goal.at.returns-in-Refused c).Start) c.args.h.now _ (sym c.key_refusal.ensures ∙ ap answered c.in-Refused.is)
+returns-in_err-key_refusal c = gives_refused (checks (goal.at.returns-in_err-key_refusal c).Start) (value_of (goal.at.returns-in_err-key_refusal c).Start) c.args.h.now _ (sym c.key_refusal.ensures ∙ ap answered c.in_err-key_refusal.was)

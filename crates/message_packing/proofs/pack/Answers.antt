@@ -23,16 +23,16 @@ value_of s = array s.args.n (packed s.args.message.now)
 pub pack_into-requires : goal.pack_into-requires
 unfolding packing
 pack_into-requires c =
-    let all_passed : Passes (checks (goal.at.pack_into-requires c).Start) = sym c.packing_refusal.ensures ∙ ap answered c.in-Done.is in
+    let all_passed : Passes (checks (goal.at.pack_into-requires c).Start) = sym c.packing_refusal.ensures ∙ ap answered c.in_ok-packing_refusal.was in
     let k = packing_passed c.args.n c.args.message.now (length c.args.m.now) (all_passed) in
     (k.0, k.2)
 
-pub returns-in-Done : goal.returns-in-Done
+pub returns : goal.returns
 unfolding packing
-returns-in-Done c =
-    let all_passed : Passes (checks (goal.at.returns-in-Done c).Start) = sym c.packing_refusal.ensures ∙ ap answered c.in-Done.is in
-    gives_done (checks (goal.at.returns-in-Done c).Start) (value_of (goal.at.returns-in-Done c).Start) c.args.m.now _ (all_passed) c.pack_into.ensures
+returns c =
+    let all_passed : Passes (checks (goal.at.returns c).Start) = sym c.packing_refusal.ensures ∙ ap answered c.in_ok-packing_refusal.was in
+    gives_done (checks (goal.at.returns c).Start) (value_of (goal.at.returns c).Start) c.args.m.now _ (all_passed) c.pack_into.ensures
 
-pub returns-in-Refused : goal.returns-in-Refused
+pub returns-in_err-packing_refusal : goal.returns-in_err-packing_refusal
 unfolding packing
-returns-in-Refused c = gives_refused (checks (goal.at.returns-in-Refused c).Start) (value_of (goal.at.returns-in-Refused c).Start) c.args.m.now _ (sym c.packing_refusal.ensures ∙ ap answered c.in-Refused.is)
+returns-in_err-packing_refusal c = gives_refused (checks (goal.at.returns-in_err-packing_refusal c).Start) (value_of (goal.at.returns-in_err-packing_refusal c).Start) c.args.m.now _ (sym c.packing_refusal.ensures ∙ ap answered c.in_err-packing_refusal.was)

@@ -23,15 +23,15 @@ value_of s = unpacked s.args.n (coefficient s.args.m.now)
 pub unpack_into-requires : goal.unpack_into-requires
 unfolding unpacking
 unpack_into-requires c =
-    let all_passed : Passes (checks (goal.at.unpack_into-requires c).Start) = sym c.unpacking_refusal.ensures ∙ ap answered c.in-Done.is in
+    let all_passed : Passes (checks (goal.at.unpack_into-requires c).Start) = sym c.unpacking_refusal.ensures ∙ ap answered c.in_ok-unpacking_refusal.was in
     unpacking_passed c.args.n c.args.m.now (length c.args.message.now) all_passed
 
-pub returns-in-Done : goal.returns-in-Done
+pub returns : goal.returns
 unfolding unpacking
-returns-in-Done c =
-    let all_passed : Passes (checks (goal.at.returns-in-Done c).Start) = sym c.unpacking_refusal.ensures ∙ ap answered c.in-Done.is in
-    gives_done (checks (goal.at.returns-in-Done c).Start) (value_of (goal.at.returns-in-Done c).Start) c.args.message.now _ all_passed c.unpack_into.ensures
+returns c =
+    let all_passed : Passes (checks (goal.at.returns c).Start) = sym c.unpacking_refusal.ensures ∙ ap answered c.in_ok-unpacking_refusal.was in
+    gives_done (checks (goal.at.returns c).Start) (value_of (goal.at.returns c).Start) c.args.message.now _ all_passed c.unpack_into.ensures
 
-pub returns-in-Refused : goal.returns-in-Refused
+pub returns-in_err-unpacking_refusal : goal.returns-in_err-unpacking_refusal
 unfolding unpacking
-returns-in-Refused c = gives_refused (checks (goal.at.returns-in-Refused c).Start) (value_of (goal.at.returns-in-Refused c).Start) c.args.message.now _ (sym c.unpacking_refusal.ensures ∙ ap answered c.in-Refused.is)
+returns-in_err-unpacking_refusal c = gives_refused (checks (goal.at.returns-in_err-unpacking_refusal c).Start) (value_of (goal.at.returns-in_err-unpacking_refusal c).Start) c.args.message.now _ (sym c.unpacking_refusal.ensures ∙ ap answered c.in_err-unpacking_refusal.was)

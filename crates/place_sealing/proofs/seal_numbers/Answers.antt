@@ -64,11 +64,11 @@ asked s h =
     (p.0, ltb-false (given s) (2 * s.args.count) there.0, c7.0, c12.0)
 
 pub seal_spread-requires : goal.seal_spread-requires
-seal_spread-requires c = let a = asked (goal.at.seal_spread-requires c).Start (sym c.refusal_before_places.ensures ∙ ap answered c.in-Done.is) in
+seal_spread-requires c = let a = asked (goal.at.seal_spread-requires c).Start (sym c.refusal_before_places.ensures ∙ ap answered c.in_ok-refusal_before_places.was) in
     let e = are_equal_4 (length c.args.message.now) (message_bytes (P (goal.at.seal_spread-requires c).Start).N) c.args.count (P (goal.at.seal_spread-requires c).Start).s (length c.args.h.now) (2 * (P (goal.at.seal_spread-requires c).Start).N) (length c.args.e.now) (2 * (P (goal.at.seal_spread-requires c).Start).N) a.2 in
     record { passes = (a.0, a.3); message_len = (e.0, e.1, e.2, e.3, a.1) }
 
-pub returns-in-Refused : goal.returns-in-Refused
-returns-in-Refused c = gives_same c.args.e.now (by_count (goal.at.returns-in-Refused c).Start)
-    (gives_refused ((parameter_checks (P (goal.at.returns-in-Refused c).Start) ++ before (goal.at.returns-in-Refused c).Start c.args.count) ++ after (goal.at.returns-in-Refused c).Start) (value_of (goal.at.returns-in-Refused c).Start) c.args.e.now _
-    (refused_first (parameter_checks (P (goal.at.returns-in-Refused c).Start) ++ before (goal.at.returns-in-Refused c).Start c.args.count) (after (goal.at.returns-in-Refused c).Start) (tt {0}) _ (sym c.refusal_before_places.ensures ∙ ap answered c.in-Refused.is)))
+pub returns-in_err-refusal_before_places : goal.returns-in_err-refusal_before_places
+returns-in_err-refusal_before_places c = gives_same c.args.e.now (by_count (goal.at.returns-in_err-refusal_before_places c).Start)
+    (gives_refused ((parameter_checks (P (goal.at.returns-in_err-refusal_before_places c).Start) ++ before (goal.at.returns-in_err-refusal_before_places c).Start c.args.count) ++ after (goal.at.returns-in_err-refusal_before_places c).Start) (value_of (goal.at.returns-in_err-refusal_before_places c).Start) c.args.e.now _
+    (refused_first (parameter_checks (P (goal.at.returns-in_err-refusal_before_places c).Start) ++ before (goal.at.returns-in_err-refusal_before_places c).Start c.args.count) (after (goal.at.returns-in_err-refusal_before_places c).Start) (tt {0}) _ (sym c.refusal_before_places.ensures ∙ ap answered c.in_err-refusal_before_places.was)))

@@ -52,22 +52,22 @@ asked s h =
 pub spread_into-requires : goal.spread_into-requires
 spread_into-requires c =
     let before_places_lem : answered c.and.result ≡ outcome (from_7 (P (goal.at.spread_into-requires c).Start) (lengths (goal.at.spread_into-requires c).Start) []) tt = c.and.ensures ∙ and_lengths (P (goal.at.spread_into-requires c).Start) (lengths (goal.at.spread_into-requires c).Start) c.has_lengths-lengths.ensures c.check.ensures c.when.ensures in
-    let all_asked : Passes (parameter_checks (P (goal.at.spread_into-requires c).Start)) × T (lengths (goal.at.spread_into-requires c).Start) = asked (goal.at.spread_into-requires c).Start (sym before_places_lem ∙ ap answered c.in-Done.is) in
+    let all_asked : Passes (parameter_checks (P (goal.at.spread_into-requires c).Start)) × T (lengths (goal.at.spread_into-requires c).Start) = asked (goal.at.spread_into-requires c).Start (sym before_places_lem ∙ ap answered c.in-Ok.is) in
     let a = all_asked in
     let e = are_equal_2 c.args.count (P (goal.at.spread_into-requires c).Start).s (length c.args.phi.now) (2 * (P (goal.at.spread_into-requires c).Start).N) (and_yes (not (ltb (length c.args.numbers.now) (2 * c.args.count))) (eqb c.args.count (P (goal.at.spread_into-requires c).Start).s && full (P (goal.at.spread_into-requires c).Start).N (length c.args.phi.now)) a.1).1 in
     (a.0, e.0, e.1)
 
-pub returns-in-Done : goal.returns-in-Done
-returns-in-Done c =
-    let before_places_lem : answered c.and.result ≡ outcome (from_7 (P (goal.at.returns-in-Done c).Start) (lengths (goal.at.returns-in-Done c).Start) []) tt = c.and.ensures ∙ and_lengths (P (goal.at.returns-in-Done c).Start) (lengths (goal.at.returns-in-Done c).Start) c.has_lengths-lengths.ensures c.check.ensures c.when.ensures in
-    let all_asked : Passes (parameter_checks (P (goal.at.returns-in-Done c).Start)) × T (lengths (goal.at.returns-in-Done c).Start) = asked (goal.at.returns-in-Done c).Start (sym before_places_lem ∙ ap answered c.in-Done.is) in
+pub returns-in-Ok : goal.returns-in-Ok
+returns-in-Ok c =
+    let before_places_lem : answered c.and.result ≡ outcome (from_7 (P (goal.at.returns-in-Ok c).Start) (lengths (goal.at.returns-in-Ok c).Start) []) tt = c.and.ensures ∙ and_lengths (P (goal.at.returns-in-Ok c).Start) (lengths (goal.at.returns-in-Ok c).Start) c.has_lengths-lengths.ensures c.check.ensures c.when.ensures in
+    let all_asked : Passes (parameter_checks (P (goal.at.returns-in-Ok c).Start)) × T (lengths (goal.at.returns-in-Ok c).Start) = asked (goal.at.returns-in-Ok c).Start (sym before_places_lem ∙ ap answered c.in-Ok.is) in
     let g = c.spread_into.ensures in
     let a = all_asked in
-    gives_same c.args.phi.now (by_count (goal.at.returns-in-Done c).Start ∙ passed_all (parameter_checks (P (goal.at.returns-in-Done c).Start)) _ _ a.0 ∙ holds_passed 7 (lengths (goal.at.returns-in-Done c).Start) _ _ a.1) g
+    gives_same c.args.phi.now (by_count (goal.at.returns-in-Ok c).Start ∙ passed_all (parameter_checks (P (goal.at.returns-in-Ok c).Start)) _ _ a.0 ∙ holds_passed 7 (lengths (goal.at.returns-in-Ok c).Start) _ _ a.1) g
 
-pub returns-in-Refused : goal.returns-in-Refused
-returns-in-Refused c =
-    let before_places_lem : answered c.and.result ≡ outcome (from_7 (P (goal.at.returns-in-Refused c).Start) (lengths (goal.at.returns-in-Refused c).Start) []) tt = c.and.ensures ∙ and_lengths (P (goal.at.returns-in-Refused c).Start) (lengths (goal.at.returns-in-Refused c).Start) c.has_lengths-lengths.ensures c.check.ensures c.when.ensures in
-    gives_same c.args.phi.now (by_count (goal.at.returns-in-Refused c).Start) (gives_refused (from_7 (P (goal.at.returns-in-Refused c).Start) (lengths (goal.at.returns-in-Refused c).Start) (place_checks (P (goal.at.returns-in-Refused c).Start) (places (goal.at.returns-in-Refused c).Start))) (value_of (goal.at.returns-in-Refused c).Start) c.args.phi.now _
-    (ap (λ (l : List Check). outcome l (tt {0})) (sym (append_assoc (parameter_checks (P (goal.at.returns-in-Refused c).Start)) (7 if not (lengths (goal.at.returns-in-Refused c).Start) ∷ []) (place_checks (P (goal.at.returns-in-Refused c).Start) (places (goal.at.returns-in-Refused c).Start))))
-    ∙ refused_first (from_7 (P (goal.at.returns-in-Refused c).Start) (lengths (goal.at.returns-in-Refused c).Start) []) (place_checks (P (goal.at.returns-in-Refused c).Start) (places (goal.at.returns-in-Refused c).Start)) (tt {0}) _ (sym before_places_lem ∙ ap answered c.in-Refused.is)))
+pub returns-in-Err : goal.returns-in-Err
+returns-in-Err c =
+    let before_places_lem : answered c.and.result ≡ outcome (from_7 (P (goal.at.returns-in-Err c).Start) (lengths (goal.at.returns-in-Err c).Start) []) tt = c.and.ensures ∙ and_lengths (P (goal.at.returns-in-Err c).Start) (lengths (goal.at.returns-in-Err c).Start) c.has_lengths-lengths.ensures c.check.ensures c.when.ensures in
+    gives_same c.args.phi.now (by_count (goal.at.returns-in-Err c).Start) (gives_refused (from_7 (P (goal.at.returns-in-Err c).Start) (lengths (goal.at.returns-in-Err c).Start) (place_checks (P (goal.at.returns-in-Err c).Start) (places (goal.at.returns-in-Err c).Start))) (value_of (goal.at.returns-in-Err c).Start) c.args.phi.now _
+    (ap (λ (l : List Check). outcome l (tt {0})) (sym (append_assoc (parameter_checks (P (goal.at.returns-in-Err c).Start)) (7 if not (lengths (goal.at.returns-in-Err c).Start) ∷ []) (place_checks (P (goal.at.returns-in-Err c).Start) (places (goal.at.returns-in-Err c).Start))))
+    ∙ refused_first (from_7 (P (goal.at.returns-in-Err c).Start) (lengths (goal.at.returns-in-Err c).Start) []) (place_checks (P (goal.at.returns-in-Err c).Start) (places (goal.at.returns-in-Err c).Start)) (tt {0}) _ (sym before_places_lem ∙ ap answered c.in-Err.is)))

@@ -4,13 +4,14 @@ use borrow.Author.Rules.{rules}
 use mir.Syntax.{w32, w64}
 use mir.Val.{to_z, of_z}
 use Rattle.refusals.specs.Outcomes.{done, Passes}
-use Rattle.refusals.specs.Numbers.{answered}
+use Rattle.refusals.proofs.Errors.{err_is}
+use Rattle.eisenstein.specs.Calls.{answered}
 use Rattle.eisenstein.specs.Values.{ℤ[ω], value}
 use Rattle.eisenstein.proofs.Pairs.{pair_read}
 use Rattle.remainders.specs.Calls.{reduction_checks, reduce_q}
 use Rattle.remainders.proofs.Limits.{reduces, refuses}
 use Rattle.remainders.proofs.reduce_q.Goals as goal
-use Rattle.remainders.proofs.reduce_q.Goals.{In-Done, Start}
+use Rattle.remainders.proofs.reduce_q.Goals.{In_ok-reduction_refusal, Start}
 
 -- modulus and value as a callee is handed them
 abbrev q : Start → ℤ[ω]
@@ -23,12 +24,12 @@ handed : (s : Start) → reduce_q (q s) (x s) ≡ reduce_q (value s.args.c s.arg
 handed s = ap₂ reduce_q (pair_read s.ranges.c s.ranges.d) (pair_read s.ranges.a s.ranges.b)
 
 -- nothing is refused
-accepted : (c : In-Done) → Passes (reduction_checks (q c.before.before) (x c.before.before))
-accepted c = sym c.reduction_refusal.ensures ∙ ap answered c.in-Done.is
+accepted : (c : In_ok-reduction_refusal) → Passes (reduction_checks (q c.before.before.before) (x c.before.before.before))
+accepted c = sym c.in_ok-reduction_refusal.ensures
 
-pub returns-in-Done : goal.returns-in-Done
-returns-in-Done c = let s = c.before.before.before in ap done c.remainder_of.ensures ∙ sym (reduces (q s) (x s) (accepted c.before)) ∙ handed s
+pub returns : goal.returns
+returns c = let s = (goal.at.returns c).Start in ap done c.remainder_of.ensures ∙ sym (reduces (q s) (x s) (accepted (goal.at.returns c).In_ok-reduction_refusal)) ∙ handed s
 
-pub returns-in-Refused : goal.returns-in-Refused
-returns-in-Refused c = let r = c.before in
-    sym (refuses (q r.before) (x r.before) _ (sym r.reduction_refusal.ensures ∙ ap answered c.in-Refused.is)) ∙ handed r.before
+pub returns-in_err-reduction_refusal : goal.returns-in_err-reduction_refusal
+returns-in_err-reduction_refusal c = let s = (goal.at.returns-in_err-reduction_refusal c).Start in
+    ap answered (err_is _ _ c.from_residual.ensures.1) ∙ sym (refuses (q s) (x s) _ (sym c.in_err-reduction_refusal.ensures)) ∙ handed s

@@ -10,7 +10,7 @@ use Rattle.eisenstein.proofs.Pairs.{pair_read}
 use Rattle.remainders.specs.Calls.{reduction_checks, reduce_q}
 use Rattle.remainders.proofs.Limits.{reduces, refuses}
 use Rattle.remainders.proofs.remainder_q.Goals as goal
-use Rattle.remainders.proofs.remainder_q.Goals.{In-Done, Start}
+use Rattle.remainders.proofs.remainder_q.Goals.{In-Ok, Start}
 
 -- modulus and value as a callee is handed them
 abbrev q : Start → ℤ[ω]
@@ -23,15 +23,15 @@ handed : (s : Start) → reduce_q (q s) (x s) ≡ reduce_q (value s.args.c s.arg
 handed s = ap₂ reduce_q (pair_read s.ranges.c s.ranges.d) (pair_read s.ranges.a s.ranges.b)
 
 -- nothing is refused
-accepted : (c : In-Done) → Passes (reduction_checks (q c.before.before) (x c.before.before))
-accepted c = sym c.reduction_refusal.ensures ∙ ap answered c.in-Done.is
+accepted : (c : In-Ok) → Passes (reduction_checks (q c.before.before) (x c.before.before))
+accepted c = sym c.reduction_refusal.ensures ∙ ap answered c.in-Ok.is
 
 abbrev over_zero : Outcome ℤ[ω] → ℤ[ω]
 over_zero o = written o 𝟘
 
-pub returns-in-Done : goal.returns-in-Done
-returns-in-Done c = let s = c.before.before.before in c.remainder_of.ensures ∙ ap over_zero (sym (reduces (q s) (x s) (accepted c.before)) ∙ handed s)
+pub returns-in-Ok : goal.returns-in-Ok
+returns-in-Ok c = let s = c.before.before.before in c.remainder_of.ensures ∙ ap over_zero (sym (reduces (q s) (x s) (accepted c.before)) ∙ handed s)
 
-pub returns-in-Refused : goal.returns-in-Refused
-returns-in-Refused c = let r = c.before in
-    ap over_zero (sym (refuses (q r.before) (x r.before) _ (sym r.reduction_refusal.ensures ∙ ap answered c.in-Refused.is)) ∙ handed r.before)
+pub returns-in-Err : goal.returns-in-Err
+returns-in-Err c = let r = c.before in
+    ap over_zero (sym (refuses (q r.before) (x r.before) _ (sym r.reduction_refusal.ensures ∙ ap answered c.in-Err.is)) ∙ handed r.before)

@@ -25,17 +25,17 @@ seals s x = next x (λ h. sealing (set_of s.args.p) h s.args.phi.now s.args.mess
 abbrev whole : Start → Outcome (List ℤ) → Outcome (List ℕ)
 whole s x = next (seals s x) (λ e. opening (set_of s.args.p) s.args.f.now s.args.f2.now e (length s.args.opened.now))
 
-pub returns-in-Done : goal.returns-in-Done
+pub returns : goal.returns
 unfolding round_trip checked_sealing
-returns-in-Done c =
-    let checked_is : checks (goal.at.returns-in-Done c).Start ≡ done c.check_key.new.h = key_done (set_of c.args.p) c.args.f.now c.args.f2.now c.args.fq.now c.args.g.now (length c.args.h.now) c.args.h.now _ c.check_key.result c.in-Done.is c.check_key.ensures in
+returns c =
+    let checked_is : checks (goal.at.returns c).Start ≡ done c.check_key.new.h = key_done (set_of c.args.p) c.args.f.now c.args.f2.now c.args.fq.now c.args.g.now (length c.args.h.now) c.args.h.now _ c.check_key.result c.in_ok-check_key.was c.check_key.ensures in
     let d = checked_is in
     let k = c.seal_and_open.ensures in
-    let o = gives_same c.args.opened.now (ap (whole (goal.at.returns-in-Done c).Start) d) k.gives in
-    record { h_after = wrote_same c.args.h.now d; e_after = k.e_after ∙ wrote_same c.args.e.now (ap (seals (goal.at.returns-in-Done c).Start) d); gives = o; result_value = (λ l m. returns l c.args.opened.now m o) }
+    let o = gives_same c.args.opened.now (ap (whole (goal.at.returns c).Start) d) k.gives in
+    record { h_after = wrote_same c.args.h.now d; e_after = k.e_after ∙ wrote_same c.args.e.now (ap (seals (goal.at.returns c).Start) d); gives = o; result_value = (λ l m. returns l c.args.opened.now m o) }
 
-pub returns-in-Refused : goal.returns-in-Refused
+pub returns-in_err-check_key : goal.returns-in_err-check_key
 unfolding round_trip checked_sealing
-returns-in-Refused c = let d = answer_refused (checks (goal.at.returns-in-Refused c).Start) c.check_key.result c.in-Refused.refusal c.check_key.ensures.0 c.in-Refused.is in
-    let o = gives_same c.args.opened.now (ap (whole (goal.at.returns-in-Refused c).Start) d) (refl, refl) in
-    record { h_after = c.check_key.ensures.1; e_after = wrote_same c.args.e.now (ap (seals (goal.at.returns-in-Refused c).Start) d); gives = o; result_value = (λ l m. returns l c.args.opened.now m o) }
+returns-in_err-check_key c = let d = answer_refused (checks (goal.at.returns-in_err-check_key c).Start) c.check_key.result c.in_err-check_key.refusal c.check_key.ensures.0 c.in_err-check_key.was in
+    let o = gives_same c.args.opened.now (ap (whole (goal.at.returns-in_err-check_key c).Start) d) (refl, refl) in
+    record { h_after = c.check_key.ensures.1; e_after = wrote_same c.args.e.now (ap (seals (goal.at.returns-in_err-check_key c).Start) d); gives = o; result_value = (λ l m. returns l c.args.opened.now m o) }

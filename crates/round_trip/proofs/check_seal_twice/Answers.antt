@@ -24,19 +24,19 @@ seals s x = next x (λ h. sealing (set_of s.args.p) h s.args.phi1.now s.args.mes
 abbrev whole : Start → Outcome (List ℤ) → Outcome (List ℤ)
 whole s x = next x (λ h. sealing_twice (set_of s.args.p) h s.args.phi1.now s.args.phi2.now s.args.message1.now s.args.message2.now (length s.args.e1.now) (length s.args.e2.now))
 
-pub returns-in-Done : goal.returns-in-Done
+pub returns : goal.returns
 unfolding checked_sealing checked_sealing_twice
-returns-in-Done c =
-    let checked_is : checks (goal.at.returns-in-Done c).Start ≡ done c.check_key.new.h = key_done (set_of c.args.p) c.args.f.now c.args.f2.now c.args.fq.now c.args.g.now (length c.args.h.now) c.args.h.now _ c.check_key.result c.in-Done.is c.check_key.ensures in
+returns c =
+    let checked_is : checks (goal.at.returns c).Start ≡ done c.check_key.new.h = key_done (set_of c.args.p) c.args.f.now c.args.f2.now c.args.fq.now c.args.g.now (length c.args.h.now) c.args.h.now _ c.check_key.result c.in_ok-check_key.was c.check_key.ensures in
     let d = checked_is in
     let k = c.seal_twice.ensures in
-    let w = k.e1_after ∙ wrote_same c.args.e1.now (ap (seals (goal.at.returns-in-Done c).Start) d) in
-    let o = gives_same c.args.e2.now (ap (whole (goal.at.returns-in-Done c).Start) d) k.gives in
+    let w = k.e1_after ∙ wrote_same c.args.e1.now (ap (seals (goal.at.returns c).Start) d) in
+    let o = gives_same c.args.e2.now (ap (whole (goal.at.returns c).Start) d) k.gives in
     record { h_after = wrote_same c.args.h.now d; e1_after = w; gives = o; result_value = (λ l l'. sealings_differ l l' w o) }
 
-pub returns-in-Refused : goal.returns-in-Refused
+pub returns-in_err-check_key : goal.returns-in_err-check_key
 unfolding checked_sealing checked_sealing_twice
-returns-in-Refused c = let d = answer_refused (checks (goal.at.returns-in-Refused c).Start) c.check_key.result c.in-Refused.refusal c.check_key.ensures.0 c.in-Refused.is in
-    let w = wrote_same c.args.e1.now (ap (seals (goal.at.returns-in-Refused c).Start) d) in
-    let o = gives_same c.args.e2.now (ap (whole (goal.at.returns-in-Refused c).Start) d) (refl, refl) in
+returns-in_err-check_key c = let d = answer_refused (checks (goal.at.returns-in_err-check_key c).Start) c.check_key.result c.in_err-check_key.refusal c.check_key.ensures.0 c.in_err-check_key.was in
+    let w = wrote_same c.args.e1.now (ap (seals (goal.at.returns-in_err-check_key c).Start) d) in
+    let o = gives_same c.args.e2.now (ap (whole (goal.at.returns-in_err-check_key c).Start) d) (refl, refl) in
     record { h_after = c.check_key.ensures.1; e1_after = w; gives = o; result_value = (λ l l'. sealings_differ l l' w o) }

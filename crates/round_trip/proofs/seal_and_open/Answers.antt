@@ -25,8 +25,8 @@ opens s e = opening (set_of s.args.p) s.args.f.now s.args.f2.now e (length s.arg
 abbrev both : Start → Outcome (List ℤ) → Outcome (List ℕ)
 both s x = next x (opens s)
 
-pub returns-in-Done : goal.returns-in-Done
-returns-in-Done c =
-    let sealed-is : seals (goal.at.returns-in-Done c).Start ≡ done c.seal.new.e = sealing_done (set_of c.args.p) c.args.h.now c.args.phi.now c.args.message.now (length c.args.e.now) c.args.e.now _ c.seal.result c.in-Done.is c.seal.ensures in
+pub returns : goal.returns
+returns c =
+    let sealed-is : seals (goal.at.returns c).Start ≡ done c.seal.new.e = sealing_done (set_of c.args.p) c.args.h.now c.args.phi.now c.args.message.now (length c.args.e.now) c.args.e.now _ c.seal.result c.in_ok-seal.was c.seal.ensures in
     let d = sealed-is in
-    record { e_after = wrote_same c.args.e.now d; gives = gives_same c.args.opened.now (ap (both (goal.at.returns-in-Done c).Start) d) c.open.ensures }
+    record { e_after = wrote_same c.args.e.now d; gives = gives_same c.args.opened.now (ap (both (goal.at.returns c).Start) d) c.open.ensures }

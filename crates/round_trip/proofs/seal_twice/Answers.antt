@@ -21,14 +21,14 @@ seals s = sealing (set_of s.args.p) s.args.h.now s.args.phi1.now s.args.message1
 abbrev both : Start → Outcome (List ℤ) → Outcome (List ℤ)
 both s x = next x (λ e. sealing (set_of s.args.p) s.args.h.now s.args.phi2.now s.args.message2.now (length s.args.e2.now))
 
-pub returns-in-Done : goal.returns-in-Done
+pub returns : goal.returns
 unfolding sealing_twice
-returns-in-Done c =
-    let sealed-is : seals (goal.at.returns-in-Done c).Start ≡ done c.seal.new.e = sealing_done (set_of c.args.p) c.args.h.now c.args.phi1.now c.args.message1.now (length c.args.e1.now) c.args.e1.now _ c.seal.result c.in-Done.is c.seal.ensures in
+returns c =
+    let sealed-is : seals (goal.at.returns c).Start ≡ done c.seal.new.e = sealing_done (set_of c.args.p) c.args.h.now c.args.phi1.now c.args.message1.now (length c.args.e1.now) c.args.e1.now _ c.seal.result c.in_ok-seal.was c.seal.ensures in
     let d = sealed-is in
-    record { e1_after = wrote_same c.args.e1.now d; gives = gives_same c.args.e2.now (ap (both (goal.at.returns-in-Done c).Start) d) c.seal-in-Done.ensures }
+    record { e1_after = wrote_same c.args.e1.now d; gives = gives_same c.args.e2.now (ap (both (goal.at.returns c).Start) d) c.seal-in_ok-seal.ensures }
 
-pub returns-in-Refused : goal.returns-in-Refused
+pub returns-in_err-seal : goal.returns-in_err-seal
 unfolding sealing_twice
-returns-in-Refused c = let d = answer_refused (seals (goal.at.returns-in-Refused c).Start) c.seal.result c.in-Refused.refusal c.seal.ensures.0 c.in-Refused.is in
-    record { e1_after = c.seal.ensures.1; gives = gives_same c.args.e2.now (ap (both (goal.at.returns-in-Refused c).Start) d) (refl, refl) }
+returns-in_err-seal c = let d = answer_refused (seals (goal.at.returns-in_err-seal c).Start) c.seal.result c.in_err-seal.refusal c.seal.ensures.0 c.in_err-seal.was in
+    record { e1_after = c.seal.ensures.1; gives = gives_same c.args.e2.now (ap (both (goal.at.returns-in_err-seal c).Start) d) (refl, refl) }

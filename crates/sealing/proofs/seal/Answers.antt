@@ -21,12 +21,12 @@ checks s = parameter_checks (set_of s.args.p) ++ sealing_checks (set_of s.args.p
 abbrev value_of : Start → List ℤ
 value_of s = array s.args.p.n (sealed (set_of s.args.p) (coefficient s.args.h.now) (coefficient s.args.phi.now) (packed s.args.message.now))
 
-pub returns-in-Done : goal.returns-in-Done
+pub returns : goal.returns
 unfolding sealing
-returns-in-Done c =
-    let all_passed : Passes (checks (goal.at.returns-in-Done c).Start) = sym c.sealing_refusal.ensures ∙ ap answered c.in-Done.is in
-    gives_done (checks (goal.at.returns-in-Done c).Start) (value_of (goal.at.returns-in-Done c).Start) c.args.e.now _ all_passed c.seal_into.ensures
+returns c =
+    let all_passed : Passes (checks (goal.at.returns c).Start) = sym c.sealing_refusal.ensures ∙ ap answered c.in_ok-sealing_refusal.was in
+    gives_done (checks (goal.at.returns c).Start) (value_of (goal.at.returns c).Start) c.args.e.now _ all_passed c.seal_into.ensures
 
-pub returns-in-Refused : goal.returns-in-Refused
+pub returns-in_err-sealing_refusal : goal.returns-in_err-sealing_refusal
 unfolding sealing
-returns-in-Refused c = gives_refused (checks (goal.at.returns-in-Refused c).Start) (value_of (goal.at.returns-in-Refused c).Start) c.args.e.now _ (sym c.sealing_refusal.ensures ∙ ap answered c.in-Refused.is)
+returns-in_err-sealing_refusal c = gives_refused (checks (goal.at.returns-in_err-sealing_refusal c).Start) (value_of (goal.at.returns-in_err-sealing_refusal c).Start) c.args.e.now _ (sym c.sealing_refusal.ensures ∙ ap answered c.in_err-sealing_refusal.was)

@@ -1,4 +1,6 @@
 -- `open_bits` meets its contract: what opening in full leaves is read as a short message.
+use Rattle.std.specs.Prelude.{Result}
+use Rattle.refusals.specs.declared.Refusal.{Refusal}
 use mathlib.Core.Path.{◌≡◌, sym, ◌∙◌, ap}
 use mathlib.Core.List.{List}
 use Prim.Native.Nat.{ℕ}
@@ -7,7 +9,6 @@ use borrow.Author.Rules.{rules}
 use lib.ListN.{length}
 use Rattle.refusals.specs.Outcomes.{Outcome, number, written}
 use Rattle.refusals.specs.Numbers.{number_of, answered}
-use Rattle.refusals.specs.declared.Answer.{Answer}
 use Rattle.refusals.proofs.Numbers.{answer_refused}
 use Rattle.parameters.specs.Sets.{ParameterSet, set_of}
 use Rattle.packing.specs.Messages.{message_bytes}
@@ -34,18 +35,18 @@ lent s = ap (short_opening (P s) s.args.f.now s.args.f2.now s.args.e.now) s.requ
 room : (s : Start) → opening (P s) s.args.f.now s.args.f2.now s.args.e.now (length s.args.bits.now) ≡ in_full s
 room s = ap (opening (P s) s.args.f.now s.args.f2.now s.args.e.now) s.requires.0
 
-pub returns-in-Done : goal.returns-in-Done
-returns-in-Done c =
-    let number_is : number (answered c.open.result) ≡ number (in_full (goal.at.returns-in-Done c).Start) = c.open.ensures.0 ∙ ap number (room (goal.at.returns-in-Done c).Start) in
+pub returns : goal.returns
+returns c =
+    let number_is : number (answered c.open.result) ≡ number (in_full (goal.at.returns c).Start) = c.open.ensures.0 ∙ ap number (room (goal.at.returns c).Start) in
     let new : List ℕ = c.open.new.message in
-    let new_is : new ≡ written (in_full (goal.at.returns-in-Done c).Start) c.args.bits.now = c.open.ensures.1 ∙ ap (λ (o : Outcome (List ℕ)). written o c.args.bits.now) (room (goal.at.returns-in-Done c).Start) in
+    let new_is : new ≡ written (in_full (goal.at.returns c).Start) c.args.bits.now = c.open.ensures.1 ∙ ap (λ (o : Outcome (List ℕ)). written o c.args.bits.now) (room (goal.at.returns c).Start) in
     let bits = new in
-    let o = opening_done (P (goal.at.returns-in-Done c).Start) c.args.f.now c.args.f2.now c.args.e.now (message_bytes (P (goal.at.returns-in-Done c).Start).N) c.args.bits.now bits (sym number_is ∙ ap (λ (x : Answer). number (answered x)) c.in-Done.is) new_is in
-    gives_as (sym (lent (goal.at.returns-in-Done c).Start ∙ (readings_agree (P (goal.at.returns-in-Done c).Start) c.args.f.now c.args.f2.now c.args.e.now).reads bits o)) c.read_short.ensures
+    let o = opening_done (P (goal.at.returns c).Start) c.args.f.now c.args.f2.now c.args.e.now (message_bytes (P (goal.at.returns c).Start).N) c.args.bits.now bits (sym number_is ∙ ap (λ (x : Result (Unit {0}) Refusal). number (answered x)) c.in_ok-open.was) new_is in
+    gives_as (sym (lent (goal.at.returns c).Start ∙ (readings_agree (P (goal.at.returns c).Start) c.args.f.now c.args.f2.now c.args.e.now).reads bits o)) c.read_short.ensures
 
-pub returns-in-Refused : goal.returns-in-Refused
-returns-in-Refused c =
-    let number_is : number (answered c.open.result) ≡ number (in_full (goal.at.returns-in-Refused c).Start) = c.open.ensures.0 ∙ ap number (room (goal.at.returns-in-Refused c).Start) in
-    let n = c.in-Refused.refusal in
-    let o = answer_refused (in_full (goal.at.returns-in-Refused c).Start) c.open.result n number_is c.in-Refused.is in
-    gives_refusal (sym (lent (goal.at.returns-in-Refused c).Start ∙ (readings_agree (P (goal.at.returns-in-Refused c).Start) c.args.f.now c.args.f2.now c.args.e.now).refused_alike (number_of n) o))
+pub returns-in_err-open : goal.returns-in_err-open
+returns-in_err-open c =
+    let number_is : number (answered c.open.result) ≡ number (in_full (goal.at.returns-in_err-open c).Start) = c.open.ensures.0 ∙ ap number (room (goal.at.returns-in_err-open c).Start) in
+    let n = c.in_err-open.refusal in
+    let o = answer_refused (in_full (goal.at.returns-in_err-open c).Start) c.open.result n number_is c.in_err-open.was in
+    gives_refusal (sym (lent (goal.at.returns-in_err-open c).Start ∙ (readings_agree (P (goal.at.returns-in_err-open c).Start) c.args.f.now c.args.f2.now c.args.e.now).refused_alike (number_of n) o))

@@ -40,13 +40,13 @@ open_checked-requires c =
     ∙ and_checks (parameter_checks (set_of c.args.p)) (7 if not (eqb (length c.args.message.now) (longest_short c.args.p.n)) ∷ []) tt c.check.ensures
     (c.when.ensures ∙ ap (λ (k : ℕ). outcome (7 if not (eqb (length c.args.message.now) k) ∷ []) (tt {0})) c.longest_short.ensures) in
     let room = length c.args.message.now in
-    let d = done_all (parameter_checks (set_of c.args.p)) _ _ _ (sym answer_is ∙ ap answered c.in-Done.is) in
+    let d = done_all (parameter_checks (set_of c.args.p)) _ _ _ (sym answer_is ∙ ap answered c.in-Ok.is) in
     (d.0, eqb→eq room (longest_short c.args.p.n) (done_holds 7 (eqb room (longest_short c.args.p.n)) [] _ _ d.1).0)
 
-pub returns-in-Refused : goal.returns-in-Refused
-returns-in-Refused c =
+pub returns-in-Err : goal.returns-in-Err
+returns-in-Err c =
     let answer_is : answered c.and.result ≡ outcome (first_checks (set_of c.args.p) (length c.args.message.now)) (tt {0}) = c.and.ensures
     ∙ and_checks (parameter_checks (set_of c.args.p)) (7 if not (eqb (length c.args.message.now) (longest_short c.args.p.n)) ∷ []) tt c.check.ensures
     (c.when.ensures ∙ ap (λ (k : ℕ). outcome (7 if not (eqb (length c.args.message.now) k) ∷ []) (tt {0})) c.longest_short.ensures) in
-    let n = c.in-Refused.refusal in
-    gives_refusal (sym (refused_early (set_of c.args.p) c.args.f.now c.args.f2.now c.args.e.now (length c.args.message.now) (number_of n) (sym answer_is ∙ ap answered c.in-Refused.is)))
+    let n = c.in-Err.refusal in
+    gives_refusal (sym (refused_early (set_of c.args.p) c.args.f.now c.args.f2.now c.args.e.now (length c.args.message.now) (number_of n) (sym answer_is ∙ ap answered c.in-Err.is)))

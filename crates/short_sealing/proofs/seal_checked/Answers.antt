@@ -1,4 +1,6 @@
 -- `seal_checked` meets its contract.
+use Rattle.std.specs.Prelude.{Result}
+use Rattle.refusals.specs.declared.Refusal.{Refusal}
 use mathlib.Core.Path.{◌≡◌, refl, sym, ◌∙◌, ap, subst}
 use mathlib.Core.Bool.{true}
 use mathlib.Core.List.{List, [], ◌++◌}
@@ -10,7 +12,6 @@ use lib.IntN.{ℤ}
 use lib.ListN.{length, take}
 use Rattle.refusals.specs.Outcomes.{Check, Outcome, done, refused, outcome, number, Gives}
 use Rattle.refusals.specs.Numbers.{answered}
-use Rattle.refusals.specs.declared.Answer.{Answer}
 use Rattle.refusals.proofs.Checks.{done_all, done_passed, gives_refused}
 use Rattle.parameters.specs.Sets.{ParameterSet, set_of, parameter_checks}
 use Rattle.parameters.proofs.AcceptedParameters.{accepted_parameters}
@@ -34,7 +35,7 @@ module _ (p : ParameterSet) (h φ : List ℤ) (short : List ℕ) (room : ℕ) (l
       let c26 = done_all (take 3 (short_sealing_checks p h φ (length short) room)) _ _ _ c.1 in
       subst T (sym long ∙ (done_passed 26 (too_long p.N (length short)) [] _ _ c26.1).0) tt
 
-  refused_as : (r : Answer) (old : List ℤ) → answered r ≡ outcome checks (tt {0}) → Gives (short_sealing p h φ short room) (number (answered r)) old old
+  refused_as : (r : Result (Unit {0}) Refusal) (old : List ℤ) → answered r ≡ outcome checks (tt {0}) → Gives (short_sealing p h φ short room) (number (answered r)) old old
   unfolding short_sealing
   refused_as r old a = go (outcome checks (tt {0})) refl
     where

@@ -9,8 +9,8 @@ use Rattle.parameters.specs.Sets.{set_of, parameter_checks}
 use Rattle.short_scheme.specs.Calls.{short_sealing_checks, short_sealing}
 use Rattle.short_sealing.proofs.seal_short.Goals as goal
 
-pub returns-in-Refused : goal.returns-in-Refused
+pub returns-in_err-check : goal.returns-in_err-check
 unfolding short_sealing
-returns-in-Refused c = let p = set_of c.args.p in
+returns-in_err-check c = let p = set_of c.args.p in
     let checks = short_sealing_checks p c.args.h.now c.args.phi.now (length c.args.message.now) (length c.args.e.now) in
-    gives_refused (parameter_checks p ++ checks) _ c.args.e.now _ (refused_first (parameter_checks p) checks tt _ (sym c.check.ensures ∙ ap answered c.in-Refused.is))
+    gives_refused (parameter_checks p ++ checks) _ c.args.e.now _ (refused_first (parameter_checks p) checks tt _ (sym c.check.ensures ∙ ap answered c.in_err-check.was))

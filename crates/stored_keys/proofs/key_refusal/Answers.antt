@@ -7,7 +7,7 @@ use Rattle.parameters.specs.Sets.{set_of, parameter_checks}
 use Rattle.stored_keys.proofs.EarlyRefusals.{set_refused}
 use Rattle.stored_keys.proofs.key_refusal.Goals as goal
 
-pub returns-in-Refused : goal.returns-in-Refused
-returns-in-Refused c =
+pub returns-in_err-check : goal.returns-in_err-check
+returns-in_err-check c =
     let check_is : answered c.check.result ≡ outcome (parameter_checks (set_of c.args.p)) (tt {0}) = c.check.ensures in
-    sym (ap number (set_refused (set_of c.args.p) c.args.numbers.now _ (sym check_is ∙ ap answered c.in-Refused.is)))
+    sym (ap number (set_refused (set_of c.args.p) c.args.numbers.now _ (sym check_is ∙ ap answered c.in_err-check.was)))

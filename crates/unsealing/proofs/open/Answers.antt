@@ -21,12 +21,12 @@ checks s = parameter_checks (set_of s.args.p) ++ opening_checks (set_of s.args.p
 abbrev value_of : Start → List ℕ
 value_of s = unpacked s.args.p.n (opened (set_of s.args.p) (coefficient s.args.f.now) (coefficient s.args.f2.now) (coefficient s.args.e.now))
 
-pub returns-in-Done : goal.returns-in-Done
+pub returns : goal.returns
 unfolding opening
-returns-in-Done c =
-    let all_passed : Passes (checks (goal.at.returns-in-Done c).Start) = sym c.opening_refusal.ensures ∙ ap answered c.in-Done.is in
-    gives_done (checks (goal.at.returns-in-Done c).Start) (value_of (goal.at.returns-in-Done c).Start) c.args.message.now _ all_passed c.open_into.ensures
+returns c =
+    let all_passed : Passes (checks (goal.at.returns c).Start) = sym c.opening_refusal.ensures ∙ ap answered c.in_ok-opening_refusal.was in
+    gives_done (checks (goal.at.returns c).Start) (value_of (goal.at.returns c).Start) c.args.message.now _ all_passed c.open_into.ensures
 
-pub returns-in-Refused : goal.returns-in-Refused
+pub returns-in_err-opening_refusal : goal.returns-in_err-opening_refusal
 unfolding opening
-returns-in-Refused c = gives_refused (checks (goal.at.returns-in-Refused c).Start) (value_of (goal.at.returns-in-Refused c).Start) c.args.message.now _ (sym c.opening_refusal.ensures ∙ ap answered c.in-Refused.is)
+returns-in_err-opening_refusal c = gives_refused (checks (goal.at.returns-in_err-opening_refusal c).Start) (value_of (goal.at.returns-in_err-opening_refusal c).Start) c.args.message.now _ (sym c.opening_refusal.ensures ∙ ap answered c.in_err-opening_refusal.was)

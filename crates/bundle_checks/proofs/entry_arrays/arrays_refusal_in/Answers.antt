@@ -38,8 +38,8 @@ array_refusal-requires c =
     let room : length c.loop-k.x ≡ 2 * P.N = c.loop-k.invariant.1 ∙ c.requires.2 ∙ ap (λ (p : ParameterSet). 2 * p.N) c.requires.0 in
     omega (arith, long, room)
 
-pub returns-in-Refused : goal.returns-in-Refused
-returns-in-Refused c =
+pub returns-in_err-array_refusal : goal.returns-in_err-array_refusal
+returns-in_err-array_refusal c =
     let file : List ℕ = c.args.file.now in
     let P : ParameterSet = head_of file in
     let k : ℕ = c.loop-k.k in
@@ -53,7 +53,7 @@ returns-in-Refused c =
     sym (own_check P ReducedModuloQ array at_place.accepted full)
     ∙ ap₂ (λ (p : ParameterSet) (x : List ℤ). array_check p ReducedModuloQ x) (sym c.requires.0) is
     ∙ sym c.array_refusal.ensures in
-    sym (c.loop-k.invariant.3 ∙ entry_refused P (entries_of file) k _ within_entries (checked ∙ ap answered c.in-Refused.is))
+    sym (c.loop-k.invariant.3 ∙ entry_refused P (entries_of file) k _ within_entries (checked ∙ ap answered c.in_err-array_refusal.was))
 
 pub loop-k-preserved : goal.loop-k-preserved
 loop-k-preserved c =
@@ -73,7 +73,7 @@ loop-k-preserved c =
       omega (arith, c.loop-k-test.true),
       omega (arith, c.loop-k.invariant.1),
       c.next_at-at.ensures ∙ ap (next_at file) c.loop-k.invariant.2 ∙ next_entry file at_place k within,
-      c.loop-k.invariant.3 ∙ entry_passed P (entries_of file) k within_entries (checked ∙ ap answered c.in-Done.is),
+      c.loop-k.invariant.3 ∙ entry_passed P (entries_of file) k within_entries (checked ∙ ap answered c.in_ok-array_refusal.was),
     )
 
 pub returns : goal.returns

@@ -32,16 +32,16 @@ full s k h =
     ap (λ (x : List ℤ). length x) (given_array s.args.p.n s.args.stops.now s.args.numbers.now k h)
     ∙ length-take-le w (drop (w * k) s.args.numbers.now) (omega (arith, length-drop (w * k) s.args.numbers.now, s.requires.1, mul-suc w k, mul-le-mul_left w h))
 
-pub returns-in-Refused : goal.returns-in-Refused
-returns-in-Refused c =
-    let checked : outcome (own (set_of c.args.p) ReducedModuloQ (array_of (entries (goal.at.returns-in-Refused c).Start) c.loop-k.k) ∷ []) (tt {0}) ≡ answered c.array_refusal.result = sym (own_check (set_of c.args.p) ReducedModuloQ (array_of (entries (goal.at.returns-in-Refused c).Start) c.loop-k.k) c.requires.0 (full (goal.at.returns-in-Refused c).Start c.loop-k.k c.loop-k-test.true)) ∙ sym c.array_refusal.ensures in
-    sym (c.loop-k.invariant.1 ∙ entry_refused (set_of c.args.p) (entries (goal.at.returns-in-Refused c).Start) c.loop-k.k _ (inside (goal.at.returns-in-Refused c).Start c.loop-k.k c.loop-k-test.true) (checked ∙ ap answered c.in-Refused.is))
+pub returns-in_err-array_refusal : goal.returns-in_err-array_refusal
+returns-in_err-array_refusal c =
+    let checked : outcome (own (set_of c.args.p) ReducedModuloQ (array_of (entries (goal.at.returns-in_err-array_refusal c).Start) c.loop-k.k) ∷ []) (tt {0}) ≡ answered c.array_refusal.result = sym (own_check (set_of c.args.p) ReducedModuloQ (array_of (entries (goal.at.returns-in_err-array_refusal c).Start) c.loop-k.k) c.requires.0 (full (goal.at.returns-in_err-array_refusal c).Start c.loop-k.k c.loop-k-test.true)) ∙ sym c.array_refusal.ensures in
+    sym (c.loop-k.invariant.1 ∙ entry_refused (set_of c.args.p) (entries (goal.at.returns-in_err-array_refusal c).Start) c.loop-k.k _ (inside (goal.at.returns-in_err-array_refusal c).Start c.loop-k.k c.loop-k-test.true) (checked ∙ ap answered c.in_err-array_refusal.was))
 
 pub loop-k-preserved : goal.loop-k-preserved
 loop-k-preserved c =
     let checked : outcome (own (set_of c.args.p) ReducedModuloQ (array_of (entries (goal.at.loop-k-preserved c).Start) c.loop-k.k) ∷ []) (tt {0}) ≡ answered c.array_refusal.result = sym (own_check (set_of c.args.p) ReducedModuloQ (array_of (entries (goal.at.loop-k-preserved c).Start) c.loop-k.k) c.requires.0 (full (goal.at.loop-k-preserved c).Start c.loop-k.k c.loop-k-test.true)) ∙ sym c.array_refusal.ensures in
     let h = c.loop-k-test.true in
-    (omega (arith, h), c.loop-k.invariant.1 ∙ entry_passed (set_of c.args.p) (entries (goal.at.loop-k-preserved c).Start) c.loop-k.k (inside (goal.at.loop-k-preserved c).Start c.loop-k.k h) (checked ∙ ap answered c.in-Done.is))
+    (omega (arith, h), c.loop-k.invariant.1 ∙ entry_passed (set_of c.args.p) (entries (goal.at.loop-k-preserved c).Start) c.loop-k.k (inside (goal.at.loop-k-preserved c).Start c.loop-k.k h) (checked ∙ ap answered c.in_ok-array_refusal.was))
 
 pub returns : goal.returns
 returns c = sym (c.loop-k.invariant.1 ∙ all_entries_passed (set_of c.args.p) (entries (goal.at.returns c).Start) c.loop-k.k (omega (arith, c.loop-k.invariant.0, c.loop-k-test.false, given_count c.args.p.n c.args.stops.now c.args.numbers.now)))

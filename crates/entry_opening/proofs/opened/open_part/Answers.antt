@@ -22,25 +22,25 @@ use Rattle.entry_opening.proofs.opened.open_part.Goals.{Start}
 abbrev opening_of : Start → List ℤ → Outcome (List ℕ)
 opening_of s x = opening (set_of s.args.p) s.args.f.now s.args.f2.now x (length s.args.message.now)
 
-pub returns-in-Done : goal.returns-in-Done
+pub returns : goal.returns
 unfolding opening
-returns-in-Done c =
+returns c =
     let array_read : List ℤ = c.read_numbers.new.numbers in
     let checks : List Check = parameter_checks (set_of c.args.p) ++ opening_checks (set_of c.args.p) c.args.f.now c.args.f2.now array_read (length c.args.message.now) in
     let value_of : List ℕ = unpacked c.args.p.n (opened (set_of c.args.p) (coefficient c.args.f.now) (coefficient c.args.f2.now) (coefficient array_read)) in
     let is_read : array_read ≡ numbers_from c.args.part.now = numbers_read c.args.part.now c.args.x.now c.read_numbers.ensures (omega (arith, c.requires.0, c.requires.1)) in
-    let of_part : opening_of (goal.at.returns-in-Done c).Start (numbers_from c.args.part.now) ≡ opening_of (goal.at.returns-in-Done c).Start array_read = ap (opening_of (goal.at.returns-in-Done c).Start) (sym is_read) in
-    let all_passed : Passes checks = sym c.opening_refusal.ensures ∙ ap answered c.in-Done.is in
+    let of_part : opening_of (goal.at.returns c).Start (numbers_from c.args.part.now) ≡ opening_of (goal.at.returns c).Start array_read = ap (opening_of (goal.at.returns c).Start) (sym is_read) in
+    let all_passed : Passes checks = sym c.opening_refusal.ensures ∙ ap answered c.in_ok-opening_refusal.was in
     let message = c.args.message.now in
     gives_same message of_part (gives_done checks value_of message _ all_passed c.open_over.ensures)
 
-pub returns-in-Refused : goal.returns-in-Refused
+pub returns-in_err-opening_refusal : goal.returns-in_err-opening_refusal
 unfolding opening
-returns-in-Refused c =
+returns-in_err-opening_refusal c =
     let array_read : List ℤ = c.read_numbers.new.numbers in
     let checks : List Check = parameter_checks (set_of c.args.p) ++ opening_checks (set_of c.args.p) c.args.f.now c.args.f2.now array_read (length c.args.message.now) in
     let value_of : List ℕ = unpacked c.args.p.n (opened (set_of c.args.p) (coefficient c.args.f.now) (coefficient c.args.f2.now) (coefficient array_read)) in
     let is_read : array_read ≡ numbers_from c.args.part.now = numbers_read c.args.part.now c.args.x.now c.read_numbers.ensures (omega (arith, c.requires.0, c.requires.1)) in
-    let of_part : opening_of (goal.at.returns-in-Refused c).Start (numbers_from c.args.part.now) ≡ opening_of (goal.at.returns-in-Refused c).Start array_read = ap (opening_of (goal.at.returns-in-Refused c).Start) (sym is_read) in
+    let of_part : opening_of (goal.at.returns-in_err-opening_refusal c).Start (numbers_from c.args.part.now) ≡ opening_of (goal.at.returns-in_err-opening_refusal c).Start array_read = ap (opening_of (goal.at.returns-in_err-opening_refusal c).Start) (sym is_read) in
     let message = c.args.message.now in
-    gives_same message of_part (gives_refused checks value_of message _ (sym c.opening_refusal.ensures ∙ ap answered c.in-Refused.is))
+    gives_same message of_part (gives_refused checks value_of message _ (sym c.opening_refusal.ensures ∙ ap answered c.in_err-opening_refusal.was))

@@ -19,9 +19,9 @@ use Rattle.array_sets.proofs.ArrayChecks.{own, own_check}
 use Rattle.files.proofs.SetChecks.{first-array, set_at, from_array, array_passed, array_refused, all_arrays_passed}
 use Rattle.file_reading.proofs.contents.stored_refusal.Goals as goal
 
-pub returns-in-Refused : goal.returns-in-Refused
+pub returns-in_err-stored_array_refusal : goal.returns-in_err-stored_array_refusal
 unfolding array_at
-returns-in-Refused c =
+returns-in_err-stored_array_refusal c =
     let within : (k : ℕ) → k < c.array_count-count.result → k < length (arrays_of c.args.kind) = λ k h. omega (arith, c.array_count-count.ensures) in
     let end : (k : ℕ) → k < c.array_count-count.result → 2 * c.args.p.n * k + 2 * c.args.p.n ≤ length (numbers_from c.args.bytes.now) = λ k h. omega (arith, c.requires.1, numbers_length c.args.bytes.now, end_of_array c.args.kind c.args.p.n k (within k h)) in
     let checked : outcome (own (set_of c.args.p) (set_at (set_of c.args.p) (arrays_of c.args.kind) (numbers_from c.args.bytes.now) c.loop-k.k) (array_at (set_of c.args.p) c.loop-k.k (numbers_from c.args.bytes.now)) ∷ []) (tt {0}) ≡ answered c.stored_array_refusal.result = let x = numbers_from c.args.bytes.now in
@@ -31,7 +31,7 @@ returns-in-Refused c =
     sym (own_check (set_of c.args.p) (get_or (arrays_of c.args.kind) k ReducedModuloQ) (take w (drop (w * k) x)) c.requires.0 long) ∙ sym c.stored_array_refusal.ensures in
     sym
     (c.loop-k.invariant.2
-    ∙ array_refused (set_of c.args.p) (arrays_of c.args.kind) (numbers_from c.args.bytes.now) c.loop-k.k _ (within c.loop-k.k c.loop-k-test.true) (checked ∙ ap answered c.in-Refused.is))
+    ∙ array_refused (set_of c.args.p) (arrays_of c.args.kind) (numbers_from c.args.bytes.now) c.loop-k.k _ (within c.loop-k.k c.loop-k-test.true) (checked ∙ ap answered c.in_err-stored_array_refusal.was))
 
 pub loop-k-preserved : goal.loop-k-preserved
 unfolding array_at
@@ -47,7 +47,7 @@ loop-k-preserved c =
       omega (arith, h),
       omega (arith, c.loop-k.invariant.1),
       c.loop-k.invariant.2
-          ∙ array_passed (set_of c.args.p) (arrays_of c.args.kind) (numbers_from c.args.bytes.now) c.loop-k.k (within c.loop-k.k h) (checked ∙ ap answered c.in-Done.is),
+          ∙ array_passed (set_of c.args.p) (arrays_of c.args.kind) (numbers_from c.args.bytes.now) c.loop-k.k (within c.loop-k.k h) (checked ∙ ap answered c.in_ok-stored_array_refusal.was),
     )
 
 pub returns : goal.returns

@@ -24,7 +24,7 @@ checks s = stored_checks s.args.kind (set_of s.args.p) s.args.file.now (length s
 pub slice_bounds-read_numbers-count : goal.slice_bounds-read_numbers-count
 slice_bounds-read_numbers-count c =
     let refusal_is : answered c.reading_refusal.result ≡ outcome (checks (goal.at.slice_bounds-read_numbers-count c).Start) (tt {0}) = c.reading_refusal.ensures in
-    let all_passed : Passes (checks (goal.at.slice_bounds-read_numbers-count c).Start) = sym refusal_is ∙ ap answered c.in-Done.is in
+    let all_passed : Passes (checks (goal.at.slice_bounds-read_numbers-count c).Start) = sym refusal_is ∙ ap answered c.in_ok-reading_refusal.was in
     let long : length c.args.file.now ≡ head_length + 2 * length c.args.numbers.now = let k = contents_passed c.args.kind (set_of c.args.p) (numbers_of c.args.file.now) (length c.args.numbers.now) (length c.args.file.now) all_passed in
     omega (arith, k.file_is, k.numbers_are, file_bytes_lem c.args.kind c.args.p.n) in
     omega (arith, long)
@@ -32,22 +32,22 @@ slice_bounds-read_numbers-count c =
 pub slice_bounds-read_numbers-start : goal.slice_bounds-read_numbers-start
 slice_bounds-read_numbers-start c =
     let refusal_is : answered c.reading_refusal.result ≡ outcome (checks (goal.at.slice_bounds-read_numbers-start c).Start) (tt {0}) = c.reading_refusal.ensures in
-    let all_passed : Passes (checks (goal.at.slice_bounds-read_numbers-start c).Start) = sym refusal_is ∙ ap answered c.in-Done.is in
+    let all_passed : Passes (checks (goal.at.slice_bounds-read_numbers-start c).Start) = sym refusal_is ∙ ap answered c.in_ok-reading_refusal.was in
     let long : length c.args.file.now ≡ head_length + 2 * length c.args.numbers.now = let k = contents_passed c.args.kind (set_of c.args.p) (numbers_of c.args.file.now) (length c.args.numbers.now) (length c.args.file.now) all_passed in
     omega (arith, k.file_is, k.numbers_are, file_bytes_lem c.args.kind c.args.p.n) in
     omega (arith, long)
 
-pub returns-in-Done : goal.returns-in-Done
-returns-in-Done c =
-    let refusal_is : answered c.reading_refusal.result ≡ outcome (checks (goal.at.returns-in-Done c).Start) (tt {0}) = c.reading_refusal.ensures in
-    let all_passed : Passes (checks (goal.at.returns-in-Done c).Start) = sym refusal_is ∙ ap answered c.in-Done.is in
+pub returns : goal.returns
+returns c =
+    let refusal_is : answered c.reading_refusal.result ≡ outcome (checks (goal.at.returns c).Start) (tt {0}) = c.reading_refusal.ensures in
+    let all_passed : Passes (checks (goal.at.returns c).Start) = sym refusal_is ∙ ap answered c.in_ok-reading_refusal.was in
     let long : length c.args.file.now ≡ head_length + 2 * length c.args.numbers.now = let k = contents_passed c.args.kind (set_of c.args.p) (numbers_of c.args.file.now) (length c.args.numbers.now) (length c.args.file.now) all_passed in
     omega (arith, k.file_is, k.numbers_are, file_bytes_lem c.args.kind c.args.p.n) in
     let rest_long : length (take (length c.args.file.now - head_length) (drop head_length c.args.file.now)) ≡ 2 * length c.args.numbers.now = let file = c.args.file.now in
     ap length (rest_taken head_length file) ∙ length-drop head_length file ∙ omega (arith, long) in
-    gives_same c.args.numbers.now (done_with (checks (goal.at.returns-in-Done c).Start) (numbers_of c.args.file.now) all_passed) (refl, numbers_read _ c.args.numbers.now c.read_numbers.ensures rest_long ∙ ap numbers_from (rest_taken head_length c.args.file.now))
+    gives_same c.args.numbers.now (done_with (checks (goal.at.returns c).Start) (numbers_of c.args.file.now) all_passed) (refl, numbers_read _ c.args.numbers.now c.read_numbers.ensures rest_long ∙ ap numbers_from (rest_taken head_length c.args.file.now))
 
-pub returns-in-Refused : goal.returns-in-Refused
-returns-in-Refused c =
-    let refusal_is : answered c.reading_refusal.result ≡ outcome (checks (goal.at.returns-in-Refused c).Start) (tt {0}) = c.reading_refusal.ensures in
-    gives_same c.args.numbers.now (refused_with (checks (goal.at.returns-in-Refused c).Start) (numbers_of c.args.file.now) _ (sym refusal_is ∙ ap answered c.in-Refused.is)) (refl, refl)
+pub returns-in_err-reading_refusal : goal.returns-in_err-reading_refusal
+returns-in_err-reading_refusal c =
+    let refusal_is : answered c.reading_refusal.result ≡ outcome (checks (goal.at.returns-in_err-reading_refusal c).Start) (tt {0}) = c.reading_refusal.ensures in
+    gives_same c.args.numbers.now (refused_with (checks (goal.at.returns-in_err-reading_refusal c).Start) (numbers_of c.args.file.now) _ (sym refusal_is ∙ ap answered c.in_err-reading_refusal.was)) (refl, refl)

@@ -25,17 +25,17 @@ checks s = given_checks s.args.kind (set_of s.args.p) s.args.numbers.now (length
 pub write_file-requires : goal.write_file-requires
 write_file-requires c =
     let refusal_is : answered c.writing_refusal.result ≡ outcome (checks (goal.at.write_file-requires c).Start) (tt {0}) = c.writing_refusal.ensures in
-    let all_passed : Passes (checks (goal.at.write_file-requires c).Start) = sym refusal_is ∙ ap answered c.in-Done.is in
+    let all_passed : Passes (checks (goal.at.write_file-requires c).Start) = sym refusal_is ∙ ap answered c.in_ok-writing_refusal.was in
     let P = set_of c.args.p in
     let k = contents_passed c.args.kind P c.args.numbers.now (length c.args.numbers.now) (length c.args.file.now) all_passed in record { t = c.requires; file_len = (omega (arith, k.file_is, k.numbers_are, file_bytes_lem c.args.kind c.args.p.n), contents_small c.args.kind P c.args.numbers.now c.requires.1 k.numbers_are k.sets) }
 
-pub returns-in-Done : goal.returns-in-Done
-returns-in-Done c =
-    let refusal_is : answered c.writing_refusal.result ≡ outcome (checks (goal.at.returns-in-Done c).Start) (tt {0}) = c.writing_refusal.ensures in
-    let all_passed : Passes (checks (goal.at.returns-in-Done c).Start) = sym refusal_is ∙ ap answered c.in-Done.is in
-    gives_same c.args.file.now (done_with (checks (goal.at.returns-in-Done c).Start) (value_of (goal.at.returns-in-Done c).Start) all_passed) (refl, c.write_file.ensures)
+pub returns : goal.returns
+returns c =
+    let refusal_is : answered c.writing_refusal.result ≡ outcome (checks (goal.at.returns c).Start) (tt {0}) = c.writing_refusal.ensures in
+    let all_passed : Passes (checks (goal.at.returns c).Start) = sym refusal_is ∙ ap answered c.in_ok-writing_refusal.was in
+    gives_same c.args.file.now (done_with (checks (goal.at.returns c).Start) (value_of (goal.at.returns c).Start) all_passed) (refl, c.write_file.ensures)
 
-pub returns-in-Refused : goal.returns-in-Refused
-returns-in-Refused c =
-    let refusal_is : answered c.writing_refusal.result ≡ outcome (checks (goal.at.returns-in-Refused c).Start) (tt {0}) = c.writing_refusal.ensures in
-    gives_same c.args.file.now (refused_with (checks (goal.at.returns-in-Refused c).Start) (value_of (goal.at.returns-in-Refused c).Start) _ (sym refusal_is ∙ ap answered c.in-Refused.is)) (refl, refl)
+pub returns-in_err-writing_refusal : goal.returns-in_err-writing_refusal
+returns-in_err-writing_refusal c =
+    let refusal_is : answered c.writing_refusal.result ≡ outcome (checks (goal.at.returns-in_err-writing_refusal c).Start) (tt {0}) = c.writing_refusal.ensures in
+    gives_same c.args.file.now (refused_with (checks (goal.at.returns-in_err-writing_refusal c).Start) (value_of (goal.at.returns-in_err-writing_refusal c).Start) _ (sym refusal_is ∙ ap answered c.in_err-writing_refusal.was)) (refl, refl)

@@ -25,7 +25,7 @@ apart s = key_checks_apart (P s) s.args.f.now s.args.f2.now s.args.fq.now s.args
 
 pub inverse_refusal-requires : goal.inverse_refusal-requires
 inverse_refusal-requires c =
-    let first_passed : Passes (first (goal.at.inverse_refusal-requires c).Start) = sym c.key_array_refusal.ensures ∙ ap answered c.in-Done.is in
+    let first_passed : Passes (first (goal.at.inverse_refusal-requires c).Start) = sym c.key_array_refusal.ensures ∙ ap answered c.in_ok-key_array_refusal.was in
     let k = key_arrays_passed (P (goal.at.inverse_refusal-requires c).Start) c.args.f.now c.args.f2.now c.args.fq.now c.args.g.now c.args.room first_passed in
     record {
       accepted = k.passes;
@@ -37,10 +37,10 @@ inverse_refusal-requires c =
       Fq_reduced = k.Fq_reduced;
     }
 
-pub returns-in-Done : goal.returns-in-Done
-returns-in-Done c =
-    let first_passed : Passes (first (goal.at.returns-in-Done c).Start) = sym c.key_array_refusal.ensures ∙ ap answered c.in-Done.is in
-    c.inverse_refusal.ensures ∙ sym (passed_all (first (goal.at.returns-in-Done c).Start) (last (goal.at.returns-in-Done c).Start) tt first_passed) ∙ apart (goal.at.returns-in-Done c).Start
+pub returns : goal.returns
+returns c =
+    let first_passed : Passes (first (goal.at.returns c).Start) = sym c.key_array_refusal.ensures ∙ ap answered c.in_ok-key_array_refusal.was in
+    c.inverse_refusal.ensures ∙ sym (passed_all (first (goal.at.returns c).Start) (last (goal.at.returns c).Start) tt first_passed) ∙ apart (goal.at.returns c).Start
 
-pub returns-in-Refused : goal.returns-in-Refused
-returns-in-Refused c = sym (refused_first (first (goal.at.returns-in-Refused c).Start) (last (goal.at.returns-in-Refused c).Start) tt _ (sym c.key_array_refusal.ensures ∙ ap answered c.in-Refused.is)) ∙ apart (goal.at.returns-in-Refused c).Start
+pub returns-in_err-key_array_refusal : goal.returns-in_err-key_array_refusal
+returns-in_err-key_array_refusal c = sym (refused_first (first (goal.at.returns-in_err-key_array_refusal c).Start) (last (goal.at.returns-in_err-key_array_refusal c).Start) tt _ (sym c.key_array_refusal.ensures ∙ ap answered c.in_err-key_array_refusal.was)) ∙ apart (goal.at.returns-in_err-key_array_refusal c).Start

@@ -38,7 +38,7 @@ pub open_sealed-requires : goal.open_sealed-requires
 open_sealed-requires c =
     let within : c.file_numbers-k.result ≤ length c.args.numbers.now = omega (arith, c.file_numbers-k.ensures, numbers_few 2 c.args.p.n (N_small 2 c.args.first.now (set_of c.args.p) c.requires.0)) in
     let front : List ℤ = take c.file_numbers-k.result c.args.numbers.now in
-    let private_read : Read 2 (set_of c.args.p) c.args.first.now c.read.new.numbers = file_read 2 c.args.first.now (set_of c.args.p) c.requires.0 front _ c.read.ensures.0 _ c.in-Done.is c.read.ensures.1 in
+    let private_read : Read 2 (set_of c.args.p) c.args.first.now c.read.new.numbers = file_read 2 c.args.first.now (set_of c.args.p) c.requires.0 front _ c.read.ensures.0 _ c.in_ok-read.was c.read.ensures.1 in
     let new : List ℤ = c.read.new.numbers in
     let room : length front ≡ file_numbers 2 c.args.p.n = length-take-le _ c.args.numbers.now within ∙ c.file_numbers-k.ensures in
     let new_long : length new ≡ file_numbers 2 c.args.p.n = omega (arith, room) in
@@ -48,10 +48,10 @@ open_sealed-requires c =
       omega (arith, length-append new (drop k c.args.numbers.now), length-drop k c.args.numbers.now, within, new_long, c.file_numbers-k.ensures, c.requires.1),
     )
 
-pub returns-in-Done : goal.returns-in-Done
-returns-in-Done c =
+pub returns : goal.returns
+returns c =
     let front : List ℤ = take c.file_numbers-k.result c.args.numbers.now in
-    let private_read : Read 2 (set_of c.args.p) c.args.first.now c.read.new.numbers = file_read 2 c.args.first.now (set_of c.args.p) c.requires.0 front _ c.read.ensures.0 _ c.in-Done.is c.read.ensures.1 in
+    let private_read : Read 2 (set_of c.args.p) c.args.first.now c.read.new.numbers = file_read 2 c.args.first.now (set_of c.args.p) c.requires.0 front _ c.read.ensures.0 _ c.in_ok-read.was c.read.ensures.1 in
     let new : List ℤ = c.read.new.numbers in
     let within : c.file_numbers-k.result ≤ length c.args.numbers.now = omega (arith, c.file_numbers-k.ensures, numbers_few 2 c.args.p.n (N_small 2 c.args.first.now (set_of c.args.p) c.requires.0)) in
     let room : length front ≡ file_numbers 2 c.args.p.n = length-take-le _ c.args.numbers.now within ∙ c.file_numbers-k.ensures in
@@ -62,9 +62,9 @@ returns-in-Done c =
     ∙ after_private (set_of c.args.p) c.args.first.now c.args.second.now new private_read)
     c.open_sealed.ensures
 
-pub returns-in-Refused : goal.returns-in-Refused
-returns-in-Refused c =
+pub returns-in_err-read : goal.returns-in_err-read
+returns-in_err-read c =
     let front : List ℤ = take c.file_numbers-k.result c.args.numbers.now in
     let within : c.file_numbers-k.result ≤ length c.args.numbers.now = omega (arith, c.file_numbers-k.ensures, numbers_few 2 c.args.p.n (N_small 2 c.args.first.now (set_of c.args.p) c.requires.0)) in
     let room : length front ≡ file_numbers 2 c.args.p.n = length-take-le _ c.args.numbers.now within ∙ c.file_numbers-k.ensures in
-    gives_refusal (sym (pair_refused c.args.first.now _ c.in-Refused.refusal (file_refused 2 c.args.first.now (set_of c.args.p) c.requires.0 front _ c.read.ensures.0 room c.in-Refused.refusal c.in-Refused.is)))
+    gives_refusal (sym (pair_refused c.args.first.now _ c.in_err-read.refusal (file_refused 2 c.args.first.now (set_of c.args.p) c.requires.0 front _ c.read.ensures.0 room c.in_err-read.refusal c.in_err-read.was)))

@@ -48,8 +48,8 @@ read_sealed-requires c =
     let few_sealed : c.args.sealed.n ≤ 1024 = N_small 3 c.args.file.now (set_of c.args.sealed) c.requires.file_value in
     (few, few_sealed, c.requires.key_read.1)
 
-pub returns-in-Done : goal.returns-in-Done
-returns-in-Done c =
+pub returns : goal.returns
+returns c =
     let P : ParameterSet = set_of c.args.p in
     let held : List ℤ = c.read_sealed.new.numbers in
     let from : ℕ = 4 * c.args.p.n in
@@ -64,7 +64,7 @@ returns-in-Done c =
     ∙ array_kept P k from c.args.numbers.now rest (omega (arith, mul-le-mul_left (2 * c.args.p.n) h)) (omega (arith, private_numbers c.args.p.n)) (omega (arith, few, private_numbers c.args.p.n)) in
     let sealed-is : c.args.p.n ≡ c.args.sealed.n → array_at P 2 held ≡ new = λ e. sym (part_is P 2 held count from (omega (arith, e)) (omega arith)) in
     let part : List ℤ = take count (drop from c.args.numbers.now) in
-    let sealed_read : Read 3 (set_of c.args.sealed) c.args.file.now new = file_read 3 c.args.file.now (set_of c.args.sealed) c.requires.file_value part _ c.read_sealed.ensures.1.0 _ c.in-Done.is c.read_sealed.ensures.1.1 in
+    let sealed_read : Read 3 (set_of c.args.sealed) c.args.file.now new = file_read 3 c.args.file.now (set_of c.args.sealed) c.requires.file_value part _ c.read_sealed.ensures.1.0 _ c.in_ok-read_sealed.was c.read_sealed.ensures.1.1 in
     let sealed = set_of c.args.sealed in
     let numbers = key_in P c.args.numbers.now in
     gives_as
@@ -72,9 +72,9 @@ returns-in-Done c =
     ∙ after_sealed P numbers sealed c.args.file.now new sealed_read)
     c.open_pair.ensures
 
-pub returns-in-Refused : goal.returns-in-Refused
+pub returns-in_err-read_sealed : goal.returns-in_err-read_sealed
 unfolding file_numbers arrays_of
-returns-in-Refused c =
+returns-in_err-read_sealed c =
     let from : ℕ = 4 * c.args.p.n in
     let count : ℕ = 2 * c.args.sealed.n in
     let part : List ℤ = take count (drop from c.args.numbers.now) in
@@ -82,4 +82,4 @@ returns-in-Refused c =
     let few : c.args.p.n ≤ 1024 = (accepted_parameters P c.requires.key_read.0.accepted).N_small in
     let few_sealed : c.args.sealed.n ≤ 1024 = N_small 3 c.args.file.now (set_of c.args.sealed) c.requires.file_value in
     let room : length part ≡ file_numbers 3 c.args.sealed.n = length-take-le count (drop from c.args.numbers.now) (omega (arith, few, few_sealed, length-drop from c.args.numbers.now)) ∙ omega arith in
-    gives_refusal (sym (refused_first (file_checks 3 c.args.file.now) _ _ _ (file_refused 3 c.args.file.now (set_of c.args.sealed) c.requires.file_value part _ c.read_sealed.ensures.1.0 room c.in-Refused.refusal c.in-Refused.is)))
+    gives_refusal (sym (refused_first (file_checks 3 c.args.file.now) _ _ _ (file_refused 3 c.args.file.now (set_of c.args.sealed) c.requires.file_value part _ c.read_sealed.ensures.1.0 room c.in_err-read_sealed.refusal c.in_err-read_sealed.was)))

@@ -1,11 +1,12 @@
 -- `Parameters::new` meets its contract.
+use Rattle.std.specs.Prelude.{Result}
+use Rattle.refusals.specs.declared.Refusal.{Refusal}
 use mathlib.Core.Path.{◌≡◌, sym, ◌∙◌, ap, ap₂}
 use borrow.Author.Rules.{rules}
 use lib.IntN.{ℤ}
 use mir.Facts.{to_z-of_z}
 use Rattle.refusals.specs.Outcomes.{done, outcome}
 use Rattle.refusals.specs.Numbers.{answered}
-use Rattle.refusals.specs.declared.Answer.{Answer}
 use Rattle.refusals.proofs.Checks.{carried, carried_done, carried_refused, outcome_carried}
 use Rattle.parameters.specs.Sets.{ParameterSet, set, parameter_checks, parameters}
 use Rattle.parameters.proofs.Parameters.new.Goals as goal
@@ -22,11 +23,11 @@ from_check c =
     outcome_carried (λ _. P s) (parameter_checks (P s)) tt
     ∙ ap (carried (λ _. P s)) (sym (c.check_numbers.ensures ∙ ap₂ (λ (u v : ℤ). outcome (parameter_checks (set s.args.n u v s.args.s s.args.t)) tt) (to_z-of_z s.ranges.c) (to_z-of_z s.ranges.d)))
 
-pub returns-in-Done : goal.returns-in-Done
-returns-in-Done c = let s = c.before.before in
+pub returns : goal.returns
+returns c = let s = c.before.before in
     ap₂ (λ (u v : ℤ). done (set s.args.n u v s.args.s s.args.t)) (to_z-of_z s.ranges.c) (to_z-of_z s.ranges.d)
-    ∙ sym (from_check c.before ∙ ap (λ (a : Answer). carried (λ _. P s) (answered a)) c.in-Done.is ∙ carried_done (λ _. P s) tt)
+    ∙ sym (from_check c.before ∙ ap (λ (a : Result (Unit {0}) Refusal). carried (λ _. P s) (answered a)) c.in_ok-check_numbers.was ∙ carried_done (λ _. P s) tt)
 
-pub returns-in-Refused : goal.returns-in-Refused
-returns-in-Refused c = let s = c.before.before in
-    sym (from_check c.before ∙ ap (λ (a : Answer). carried (λ _. P s) (answered a)) c.in-Refused.is ∙ carried_refused (λ _. P s) _)
+pub returns-in_err-check_numbers : goal.returns-in_err-check_numbers
+returns-in_err-check_numbers c = let s = c.before.before in
+    sym (from_check c.before ∙ ap (λ (a : Result (Unit {0}) Refusal). carried (λ _. P s) (answered a)) c.in_err-check_numbers.was ∙ carried_refused (λ _. P s) _)

@@ -1,4 +1,6 @@
 -- `seal_with` meets its contract: a list that is spread seals as its array does, and one that is not is refused by sealing from it too.
+use Rattle.std.specs.Prelude.{Result}
+use Rattle.refusals.specs.declared.Refusal.{Refusal}
 use mathlib.Core.Path.{◌≡◌, refl, sym, ◌∙◌, ap}
 use mathlib.Core.List.{List, [], ◌∷◌, ◌++◌}
 use mathlib.Core.Bool.{◌&&◌}
@@ -10,7 +12,6 @@ use lib.ListN.{length}
 use Rattle.integers.proofs.Tests.{equal_2, equal_4}
 use Rattle.refusals.specs.Outcomes.{refused, done, number, ◌if◌, Gives, Passes}
 use Rattle.refusals.specs.Numbers.{answered, number_of}
-use Rattle.refusals.specs.declared.Answer.{Answer}
 use Rattle.refusals.proofs.Checks.{holds_passed, passed_all, refused_first, refused_plain, done_parts, done_as_written, gives_same}
 use Rattle.refusals.proofs.Numbers.{number_positive, answer_refused}
 use Rattle.parameters.specs.Sets.{ParameterSet, set_of, parameter_checks}
@@ -61,18 +62,18 @@ places s = records_from s.args.numbers.now 0 s.args.count
 as_list : (s : Start) → numbers_sealing (set_of s.args.p) s.args.h.now s.args.numbers.now s.args.count s.args.message.now (length s.args.e.now) ≡ places_sealing (set_of s.args.p) s.args.h.now (places s) s.args.message.now (length s.args.e.now)
 as_list s = sealing_there (set_of s.args.p) s.args.numbers.now s.args.count s.requires.message_len.4 s.args.h.now s.args.message.now (length s.args.e.now)
 
-pub returns-in-Done : goal.returns-in-Done
-returns-in-Done c =
-    let spread_list : Gives (spreading (set_of c.args.p) (places (goal.at.returns-in-Done c).Start) (length c.args.phi.now)) (number (answered c.spread_numbers.result)) c.args.phi.now c.spread_numbers.new.phi = gives_same c.args.phi.now (sym (spreading_there (set_of c.args.p) c.args.numbers.now c.args.count c.requires.message_len.4 (length c.args.phi.now))) c.spread_numbers.ensures in
-    let none = ap (λ (a : Answer). number (answered a)) (sym c.in-Done.is) ∙ spread_list.0 in
-    gives_same c.args.e.now (as_list (goal.at.returns-in-Done c).Start ∙ sealed_so (set_of c.args.p) (places (goal.at.returns-in-Done c).Start) (length c.args.phi.now) c.args.phi.now _ (none, spread_list.1) c.args.h.now c.args.message.now (length c.args.e.now)) c.seal.ensures
+pub returns : goal.returns
+returns c =
+    let spread_list : Gives (spreading (set_of c.args.p) (places (goal.at.returns c).Start) (length c.args.phi.now)) (number (answered c.spread_numbers.result)) c.args.phi.now c.spread_numbers.new.phi = gives_same c.args.phi.now (sym (spreading_there (set_of c.args.p) c.args.numbers.now c.args.count c.requires.message_len.4 (length c.args.phi.now))) c.spread_numbers.ensures in
+    let none = ap (λ (a : Result (Unit {0}) Refusal). number (answered a)) (sym c.in_ok-spread_numbers.was) ∙ spread_list.0 in
+    gives_same c.args.e.now (as_list (goal.at.returns c).Start ∙ sealed_so (set_of c.args.p) (places (goal.at.returns c).Start) (length c.args.phi.now) c.args.phi.now _ (none, spread_list.1) c.args.h.now c.args.message.now (length c.args.e.now)) c.seal.ensures
 
-pub returns-in-Refused : goal.returns-in-Refused
-returns-in-Refused c =
-    let spread_list : Gives (spreading (set_of c.args.p) (places (goal.at.returns-in-Refused c).Start) (length c.args.phi.now)) (number (answered c.spread_numbers.result)) c.args.phi.now c.spread_numbers.new.phi = gives_same c.args.phi.now (sym (spreading_there (set_of c.args.p) c.args.numbers.now c.args.count c.requires.message_len.4 (length c.args.phi.now))) c.spread_numbers.ensures in
-    let refusal = c.in-Refused.refusal in
-    let refused-list = answer_refused _ c.spread_numbers.result refusal spread_list.0 c.in-Refused.is in
+pub returns-in_err-spread_numbers : goal.returns-in_err-spread_numbers
+returns-in_err-spread_numbers c =
+    let spread_list : Gives (spreading (set_of c.args.p) (places (goal.at.returns-in_err-spread_numbers c).Start) (length c.args.phi.now)) (number (answered c.spread_numbers.result)) c.args.phi.now c.spread_numbers.new.phi = gives_same c.args.phi.now (sym (spreading_there (set_of c.args.p) c.args.numbers.now c.args.count c.requires.message_len.4 (length c.args.phi.now))) c.spread_numbers.ensures in
+    let refusal = c.in_err-spread_numbers.refusal in
+    let refused-list = answer_refused _ c.spread_numbers.result refusal spread_list.0 c.in_err-spread_numbers.was in
     let records = records_length c.args.numbers.now 0 c.args.count ∙ c.requires.message_len.1 in
     gives_same c.args.e.now
-    (as_list (goal.at.returns-in-Refused c).Start ∙ refused_so (set_of c.args.p) (places (goal.at.returns-in-Refused c).Start) c.args.h.now c.args.message.now (length c.args.phi.now) (length c.args.e.now) (number_of refusal) c.requires.passes.0 c.requires.passes.1 c.requires.message_len.0 records c.requires.message_len.2 c.requires.message_len.5 c.requires.message_len.3 (number_positive refusal) refused-list)
+    (as_list (goal.at.returns-in_err-spread_numbers c).Start ∙ refused_so (set_of c.args.p) (places (goal.at.returns-in_err-spread_numbers c).Start) c.args.h.now c.args.message.now (length c.args.phi.now) (length c.args.e.now) (number_of refusal) c.requires.passes.0 c.requires.passes.1 c.requires.message_len.0 records c.requires.message_len.2 c.requires.message_len.5 c.requires.message_len.3 (number_positive refusal) refused-list)
     (refl, refl)

@@ -58,14 +58,14 @@ places_refusal-requires c =
 
 pub lay-requires : goal.lay-requires
 lay-requires c =
-    let all_passed : Passes (checks (goal.at.lay-requires c).Start) = sym c.places_refusal.ensures ∙ ap answered c.in-Done.is in
+    let all_passed : Passes (checks (goal.at.lay-requires c).Start) = sym c.places_refusal.ensures ∙ ap answered c.in_ok-places_refusal.was in
     record { count_bound = ((small (goal.at.lay-requires c).Start).1, in_range_lem (goal.at.lay-requires c).Start all_passed); x_len = (c.clear.ensures.0 ∙ c.requires.2, c.clear.ensures.1) }
 
-pub returns-in-Done : goal.returns-in-Done
-returns-in-Done c =
-    let all_passed : Passes (checks (goal.at.returns-in-Done c).Start) = sym c.places_refusal.ensures ∙ ap answered c.in-Done.is in
+pub returns : goal.returns
+returns c =
+    let all_passed : Passes (checks (goal.at.returns c).Start) = sym c.places_refusal.ensures ∙ ap answered c.in_ok-places_refusal.was in
     let passes = all_passed in
-    gives_done (checks (goal.at.returns-in-Done c).Start) (value_of (goal.at.returns-in-Done c).Start) c.args.phi.now _ passes (c.lay.ensures.x_after (c.lay.ensures.value ∙ ap not (once (goal.at.returns-in-Done c).Start passes)))
+    gives_done (checks (goal.at.returns c).Start) (value_of (goal.at.returns c).Start) c.args.phi.now _ passes (c.lay.ensures.x_after (c.lay.ensures.value ∙ ap not (once (goal.at.returns c).Start passes)))
 
-pub returns-in-Refused : goal.returns-in-Refused
-returns-in-Refused c = gives_refused (checks (goal.at.returns-in-Refused c).Start) (value_of (goal.at.returns-in-Refused c).Start) c.args.phi.now _ (sym c.places_refusal.ensures ∙ ap answered c.in-Refused.is)
+pub returns-in_err-places_refusal : goal.returns-in_err-places_refusal
+returns-in_err-places_refusal c = gives_refused (checks (goal.at.returns-in_err-places_refusal c).Start) (value_of (goal.at.returns-in_err-places_refusal c).Start) c.args.phi.now _ (sym c.places_refusal.ensures ∙ ap answered c.in_err-places_refusal.was)
