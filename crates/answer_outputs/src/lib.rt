@@ -7,12 +7,11 @@ ghost use Rattle.refusals.specs.Outcomes.{Gives};
 ghost use Rattle.eisenstein.specs.Values.{value};
 ghost use Rattle.eisenstein.specs.Calls.{answered};
 ghost use Rattle.parameters.specs.Sets.{set, made};
-ghost use Rattle.opened_arrays.specs.Answers.{answer_of};
+ghost use Rattle.refusals.specs.Numbers.{answered as answered_length};
 
-use refusals::Refusal;
-use parameters::Parameters;
 use eisenstein::Pair;
-
+use parameters::Parameters;
+use refusals::Refusal;
 
 // Hands an answer on: a remainder to the outputs, or a refusal's number alone.
 pub fn give(answer: Result<Pair, Refusal>, ra: &mut i32, rb: &mut i32) -> u32
@@ -63,7 +62,7 @@ pub fn give_parameters(
 
 // Hands the length of a message on to the output, or a refusal's number alone.
 pub fn give_length(answer: Result<usize, Refusal>, used: &mut usize) -> u32
-    ensures { Gives (answer_of answer) result used.old used.new }
+    ensures { Gives (answered_length answer) result used.old used.new }
 {
     match answer {
         Ok(length) => {

@@ -2,7 +2,7 @@
 use mathlib.Core.Path.{◌≡◌, refl, sym, ◌∙◌, ap}
 use mathlib.Core.Bool.{Bool, not}
 use mathlib.Core.List.{List, [], ◌∷◌, ◌++◌, append_assoc}
-use Prim.Native.Nat.{◌*◌}
+use Prim.Native.Nat.{ℕ, ◌*◌}
 use lib.Dec.{T}
 use lib.IntN.{ℤ}
 use lib.ListN.{length}
@@ -56,3 +56,11 @@ module _ (p : ParameterSet) (t : Bool) where
   pub and_check : (c : Check) (cs : List Check) {o r : Outcome (Unit {0})} → o ≡ outcome (from_7 cs) tt → r ≡ outcome (c ∷ []) tt → first o r ≡ outcome (from_7 (cs ++ (c ∷ []))) tt
   and_check c cs e f =
       and_checks (from_7 cs) (c ∷ []) tt e f ∙ ap (λ (l : List Check). outcome l (tt {0})) (append_assoc (parameter_checks p) (7 if not t ∷ cs) (c ∷ []))
+
+  -- a refusal that comes early, whatever would be asked after it
+  pub stops_before_7 : (cs : List Check) {o : Outcome (Unit {0})} {n : ℕ} → o ≡ refused n → refused n ≡ outcome (parameter_checks p) (tt {0}) → o ≡ outcome (from_7 cs) (tt {0})
+  stops_before_7 cs {n = n} e f = e ∙ sym (refused_first (parameter_checks p) (7 if not t ∷ cs) tt n (sym f))
+
+  pub stops : (cs ds : List Check) {o : Outcome (Unit {0})} {n : ℕ} → o ≡ refused n → refused n ≡ outcome (from_7 cs) (tt {0}) → o ≡ outcome (from_7 (cs ++ ds)) (tt {0})
+  stops cs ds {n = n} e f =
+      e ∙ sym (refused_first (from_7 cs) ds tt n (sym f)) ∙ ap (λ (l : List Check). outcome l (tt {0})) (append_assoc (parameter_checks p) (7 if not t ∷ cs) ds)

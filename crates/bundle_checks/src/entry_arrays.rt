@@ -16,8 +16,8 @@ use bundle_heads::entry_count;
 use bundle_steps::{array_at, next_at};
 use bundles::FIRST_ENTRY;
 use parameters::Parameters;
-use stored_numbers::read_numbers;
 use refusals::Refusal;
+use stored_numbers::read_numbers;
 
 // Judges the entry at this place. Its numbers go to a lent array.
 fn array_refusal(p: Parameters, file: &[u8], at: usize, x: &mut [i32]) -> Result<(), Refusal>
@@ -34,13 +34,10 @@ fn arrays_refusal_in(p: Parameters, file: &[u8], x: &mut [i32]) -> Result<(), Re
     requires { (set_of p ≡ head_of file.now) × Passes (count_checks file.now) × (length x.old ≡ 2 * p.n) }
     ensures { answered result ≡ outcome (arrays_checks (head_of file.now) (entries_of file.now)) tt }
 {
-    let count = entry_count(file);
     let mut at = FIRST_ENTRY;
-    let mut k = 0;
-    while k < count {
+    for k in 0..entry_count(file) {
         array_refusal(p, file, at, x)?;
         at = next_at(file, at);
-        k += 1;
     }
     Ok(())
 }

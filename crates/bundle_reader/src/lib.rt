@@ -12,8 +12,8 @@ ghost use Rattle.bundles.specs.Steps.{stop_at, part_at, next_at, start_of};
 
 use bundle_checks::begin;
 use bundle_steps::{array_at, next_at, stop_at};
-use refusals::Refusal;
 use parameters::Parameters;
+use refusals::Refusal;
 
 // The bundle, the place of the next entry, and the bundle's parameters or its first refusal. After a refusal no entry is left.
 #[derive(Clone, Copy)]

@@ -33,7 +33,12 @@ fn outputs_right(n: u32, file: &[u8], stops: usize, numbers: usize) -> bool
 }
 
 // The stops and the numbers, of a bundle whose head, count and length are right.
-fn read_entries(p: Parameters, file: &[u8], stops: &mut [u32], numbers: &mut [i32]) -> Result<(), Refusal>
+fn read_entries(
+    p: Parameters,
+    file: &[u8],
+    stops: &mut [u32],
+    numbers: &mut [i32],
+) -> Result<(), Refusal>
     requires { (set_of p ≡ head_of file.now) × Passes (count_checks file.now) }
     ensures gives { Gives (outcome (output_checks file.now (length stops.old) (length numbers.old)) (stops_of (entries_of file.now)))
         (number (answered result)) stops.old stops.new }

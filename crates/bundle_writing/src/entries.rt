@@ -27,10 +27,8 @@ pub(crate) fn arrays_refusal(p: Parameters, stops: &[u16], numbers: &[i32]) -> R
     requires { Passes (parameter_checks (set_of p)) × (length numbers.now ≡ 2 * p.n * length stops.now) }
     ensures { answered result ≡ outcome (arrays_checks (set_of p) (entries_given p.n stops.now numbers.now)) tt }
 {
-    let mut k = 0;
-    while k < stops.len() {
+    for k in 0..stops.len() {
         array_refusal(p, stops, numbers, k)?;
-        k += 1;
     }
     Ok(())
 }

@@ -33,7 +33,12 @@ fn given_refusal(p: Parameters, stops: &[u16], numbers: &[i32], room: usize) -> 
     entries::arrays_refusal(p, stops, numbers)
 }
 
-fn write_given(p: Parameters, stops: &[u16], numbers: &[i32], file: &mut [u8]) -> Result<(), Refusal>
+fn write_given(
+    p: Parameters,
+    stops: &[u16],
+    numbers: &[i32],
+    file: &mut [u8],
+) -> Result<(), Refusal>
     requires { Passes (parameter_checks (set_of p)) }
     ensures { Gives (writing_bundle (set_of p) stops.now numbers.now (length file.old)) (number (answered result)) file.old file.new }
 {
@@ -43,7 +48,12 @@ fn write_given(p: Parameters, stops: &[u16], numbers: &[i32], file: &mut [u8]) -
 }
 
 // A bundle, to file. The numbers are the arrays of the entries, one after another.
-pub fn write_bundle(p: Parameters, stops: &[u16], numbers: &[i32], file: &mut [u8]) -> Result<(), Refusal>
+pub fn write_bundle(
+    p: Parameters,
+    stops: &[u16],
+    numbers: &[i32],
+    file: &mut [u8],
+) -> Result<(), Refusal>
     ensures { Gives (writing_bundle (set_of p) stops.now numbers.now (length file.old)) (number (answered result)) file.old file.new }
 {
     p.check()?;

@@ -12,8 +12,8 @@ use bundles::{FIRST_ENTRY, STOP_BYTES, entry_length};
 use head_writing::write_head;
 use heads::{HEAD_BYTES, kinds};
 use parameters::Parameters;
-use stored_numbers::write_numbers;
 use refusals::Refusal;
+use stored_numbers::write_numbers;
 
 // One entry: its stop, then its array.
 fn write_entry(stop: u16, array: &[i32], out: &mut [u8])

@@ -16,7 +16,13 @@ use parameters::Parameters;
 use refusals::Refusal;
 
 // Opens the sealed array that part is, with the private key f and F2. The message goes to message.
-pub fn open_entry(p: Parameters, f: &[i32], f2: &[i32], part: &[u8], message: &mut [u8]) -> Result<(), Refusal>
+pub fn open_entry(
+    p: Parameters,
+    f: &[i32],
+    f2: &[i32],
+    part: &[u8],
+    message: &mut [u8],
+) -> Result<(), Refusal>
     ensures { Gives (opening_entry (set_of p) f.now f2.now part.now (length message.old))
         (number (answered result)) message.old message.new }
 {

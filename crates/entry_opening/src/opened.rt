@@ -57,7 +57,13 @@ fn open_part(
 }
 
 // With room for two arrays of N up to 128, 2 KiB to clear.
-fn open_few(p: Parameters, f: &[i32], f2: &[i32], part: &[u8], message: &mut [u8]) -> Result<(), Refusal>
+fn open_few(
+    p: Parameters,
+    f: &[i32],
+    f2: &[i32],
+    part: &[u8],
+    message: &mut [u8],
+) -> Result<(), Refusal>
     requires { (p.n ≤ 128) × (length part.now ≡ 4 * p.n) }
     ensures { Gives (opening (set_of p) f.now f2.now (numbers_from part.now) (length message.old))
         (number (answered result)) message.old message.new }
@@ -70,7 +76,13 @@ fn open_few(p: Parameters, f: &[i32], f2: &[i32], part: &[u8], message: &mut [u8
 }
 
 // With room for every N, 16 KiB.
-fn open_many(p: Parameters, f: &[i32], f2: &[i32], part: &[u8], message: &mut [u8]) -> Result<(), Refusal>
+fn open_many(
+    p: Parameters,
+    f: &[i32],
+    f2: &[i32],
+    part: &[u8],
+    message: &mut [u8],
+) -> Result<(), Refusal>
     requires { (p.n ≤ 1024) × (length part.now ≡ 4 * p.n) }
     ensures { Gives (opening (set_of p) f.now f2.now (numbers_from part.now) (length message.old))
         (number (answered result)) message.old message.new }

@@ -8,9 +8,9 @@
 
 ghost use Rattle.std.specs.Prelude.{◌≡◌, ◌+◌, ◌-◌, ◌≤◌, min, length};
 
+use refusals::Refusal;
 use std::io;
 use std::io::{Read, Stdin};
-use refusals::Refusal;
 
 // Two files have at most 16 + 16 × 1,024 and 16 + 4 × 1,024 bytes, 20,512 in all. Of a longer input the first 20,513 bytes give the same line (`LongInputLine` of the crate `opening`), so the rest is read and left.
 fn input_buffer() -> [u8; 20513]

@@ -11,11 +11,17 @@ ghost use Rattle.files.specs.Calls.{set_checks};
 
 use heads::kinds::{array_count, array_set};
 use parameters::Parameters;
-use stored_numbers::read_numbers;
 use refusals::Refusal;
+use stored_numbers::read_numbers;
 
 // Judges array k by its bytes. Its numbers go to a lent array.
-fn stored_array_refusal(kind: u32, p: Parameters, k: usize, bytes: &[u8], x: &mut [i32]) -> Result<(), Refusal>
+fn stored_array_refusal(
+    kind: u32,
+    p: Parameters,
+    k: usize,
+    bytes: &[u8],
+    x: &mut [i32],
+) -> Result<(), Refusal>
     requires { (k < length (arrays_of kind)) × (length bytes.now ≡ 2 * file_numbers kind p.n) × (length x.old ≡ 2 * p.n) }
     ensures { answered result ≡ array_check (set_of p) (get_or (arrays_of kind) k ReducedModuloQ) (array_at (set_of p) k (numbers_from bytes.now)) }
 {
@@ -28,15 +34,17 @@ fn stored_array_refusal(kind: u32, p: Parameters, k: usize, bytes: &[u8], x: &mu
 }
 
 // Judges the arrays in the bytes after a head, each in the same lent array.
-pub(crate) fn stored_refusal(kind: u32, p: Parameters, bytes: &[u8], x: &mut [i32]) -> Result<(), Refusal>
+pub(crate) fn stored_refusal(
+    kind: u32,
+    p: Parameters,
+    bytes: &[u8],
+    x: &mut [i32],
+) -> Result<(), Refusal>
     requires { Passes (parameter_checks (set_of p)) × (length bytes.now ≡ 2 * file_numbers kind p.n) × (length x.old ≡ 2 * p.n) }
     ensures { answered result ≡ outcome (set_checks (set_of p) (arrays_of kind) (numbers_from bytes.now)) tt }
 {
-    let count = array_count(kind);
-    let mut k = 0;
-    while k < count {
+    for k in 0..array_count(kind) {
         stored_array_refusal(kind, p, k, bytes, x)?;
-        k += 1;
     }
     Ok(())
 }

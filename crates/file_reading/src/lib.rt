@@ -15,7 +15,6 @@ mod reading;
 
 use refusals::Refusal;
 
-
 // The arrays of a file of the wanted kind, one after another in stored order, to numbers.
 pub fn read(kind: u32, file: &[u8], numbers: &mut [i32]) -> Result<(), Refusal>
     ensures { Gives (reading kind file.now (length numbers.old)) (number (answered result)) numbers.old numbers.new }

@@ -26,7 +26,12 @@ fn reading_refusal(kind: u32, p: Parameters, file: &[u8], room: usize) -> Result
     stored_refusal(kind, p, &file[HEAD_BYTES..], &mut x[..width])
 }
 
-pub(crate) fn read_content(kind: u32, p: Parameters, file: &[u8], numbers: &mut [i32]) -> Result<(), Refusal>
+pub(crate) fn read_content(
+    kind: u32,
+    p: Parameters,
+    file: &[u8],
+    numbers: &mut [i32],
+) -> Result<(), Refusal>
     requires { Passes (parameter_checks (set_of p)) }
     ensures { Gives (reading_content kind (set_of p) file.now (length numbers.old)) (number (answered result)) numbers.old numbers.new }
 {

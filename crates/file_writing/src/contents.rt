@@ -29,11 +29,8 @@ pub(crate) fn sets_refusal(kind: u32, p: Parameters, numbers: &[i32]) -> Result<
     requires { Passes (parameter_checks (set_of p)) × (length numbers.now ≡ file_numbers kind p.n) }
     ensures { answered result ≡ outcome (set_checks (set_of p) (arrays_of kind) numbers.now) tt }
 {
-    let count = array_count(kind);
-    let mut k = 0;
-    while k < count {
+    for k in 0..array_count(kind) {
         array_refusal(kind, p, k, numbers)?;
-        k += 1;
     }
     Ok(())
 }

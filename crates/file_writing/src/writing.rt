@@ -38,7 +38,12 @@ fn write_file(kind: u32, p: Parameters, numbers: &[i32], file: &mut [u8])
     write_numbers(numbers, &mut file[HEAD_BYTES..]);
 }
 
-pub(crate) fn write_content(kind: u32, p: Parameters, numbers: &[i32], file: &mut [u8]) -> Result<(), Refusal>
+pub(crate) fn write_content(
+    kind: u32,
+    p: Parameters,
+    numbers: &[i32],
+    file: &mut [u8],
+) -> Result<(), Refusal>
     requires { T (known_kind kind) × Passes (parameter_checks (set_of p)) }
     ensures { Gives (writing_content kind (set_of p) numbers.now (length file.old)) (number (answered result)) file.old file.new }
 {

@@ -1,9 +1,6 @@
 -- What the calls of products by halving give.
-use Rattle.std.specs.Prelude.{Err, Ok, Result}
-use Rattle.refusals.specs.declared.Refusal.{Refusal}
 use Rattle.std.specs.Prelude.{◌≡◌, Bool, true, false, cond, List, ◌++◌, ℕ, ◌*◌, ◌<◌, leb, ℤ}
 use Rattle.refusals.specs.Outcomes.{Outcome, done, refused, outcome}
-use Rattle.refusals.specs.Numbers.{number_of}
 use Rattle.parameters.specs.Sets.{ParameterSet, parameter_checks}
 use Rattle.polynomials.specs.Polynomials.{coefficient}
 use Rattle.halving.specs.Products.{product}
@@ -17,11 +14,6 @@ Multiplies can N x y r old new =
 -- Convolution modulo q as far as direct sums go: its refusals for every N, and whether N is at most 16, so that the result is formed.
 unfoldable pub beginning : ParameterSet → (x y : List ℤ) → ℕ → Outcome Bool
 beginning p x y room = outcome (parameter_checks p ++ convolving_checks p.N p.q x y room) (leb p.N 16)
-
--- The answer of that call, as an outcome.
-abbrev pub answered : Result Bool Refusal → Outcome Bool
-answered (Ok formed) = done formed
-answered (Err r) = refused (number_of r)
 
 -- What an output holds then, that held `old` before: the value where it is formed, and `old` otherwise.
 abbrev pub left : {A : Type 0} → Outcome Bool → A → A → A

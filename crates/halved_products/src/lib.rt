@@ -10,7 +10,8 @@ ghost use Rattle.eisenstein.specs.Reduction.{mod_q};
 ghost use Rattle.parameters.specs.Sets.{set_of};
 ghost use Rattle.polynomials.specs.Polynomials.{coefficient, array, convolution};
 ghost use Rattle.halving.specs.Operands.{fit_for_halving};
-ghost use Rattle.halved_products.specs.Calls.{Multiplies, beginning, answered, Begins};
+ghost use Rattle.halved_products.specs.Calls.{Multiplies, beginning, Begins};
+ghost use Rattle.refusals.specs.Numbers.{answered};
 
 mod direct;
 mod few;
@@ -34,7 +35,12 @@ pub fn multiply_halved(x: &mut [i32], y: &mut [i32], n: usize, w: &mut [i64]) ->
 }
 
 // Convolution modulo q as far as direct sums go: its refusals for every N, and x × y reduced, to out, where N is at most 16. Above that it is not formed, and out is as it came.
-pub fn convolve_up_to_16(p: Parameters, x: &[i32], y: &[i32], out: &mut [i32]) -> Result<bool, Refusal>
+pub fn convolve_up_to_16(
+    p: Parameters,
+    x: &[i32],
+    y: &[i32],
+    out: &mut [i32],
+) -> Result<bool, Refusal>
     ensures { Begins (beginning (set_of p) x.now y.now (length out.old))
         (array p.n (λ i. mod_q (value p.c p.d) (convolution p.n (coefficient x.now) (coefficient y.now) i))) (answered result) out.old out.new }
 {

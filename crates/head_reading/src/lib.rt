@@ -10,9 +10,8 @@ ghost use Rattle.head_reading.specs.Calls.{reading_head};
 mod bytes;
 mod reading;
 
-use refusals::Refusal;
 use parameters::Parameters;
-
+use refusals::Refusal;
 
 // The parameters of a file of the wanted kind, from its head alone: they tell how long the file is and how many numbers it holds.
 pub fn read_head(kind: u32, file: &[u8]) -> Result<Parameters, Refusal>

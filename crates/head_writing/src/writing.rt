@@ -22,7 +22,7 @@ pub(crate) fn writing_refusal(kind: u32, p: Parameters, room: usize) -> Result<(
     }
     p.check()?;
     if room < HEAD_BYTES {
-    return Err(Refusal::WrongLength);
+        return Err(Refusal::WrongLength);
     }
     Ok(())
 }

@@ -63,7 +63,12 @@ fn inverse_refusal_with(
 }
 
 // Refusals 13 and 14. The product takes 8 KiB of stack.
-pub(crate) fn inverse_refusal(p: Parameters, f: &[i32], f2: &[i32], fq: &[i32]) -> Result<(), Refusal>
+pub(crate) fn inverse_refusal(
+    p: Parameters,
+    f: &[i32],
+    f2: &[i32],
+    fq: &[i32],
+) -> Result<(), Refusal>
     requires { KeyArrays (set_of p) f.now f2.now fq.now }
     ensures { answered result ≡ outcome (inverse_checks (set_of p) f.now f2.now fq.now) tt }
 {

@@ -38,10 +38,8 @@ pub fn key_array_refusal(
 ) -> Result<(), Refusal>
     ensures { answered result ≡ outcome (parameter_checks (set_of p) ++ key_array_checks (set_of p) f.now f2.now fq.now g.now room) tt }
 {
-    let n = p.n;
-    let lengths = five_full(n, f.len(), f2.len(), fq.len(), g.len(), room);
     p.check()?;
-    Refusal::WrongLength.when(!lengths)?;
+    Refusal::WrongLength.when(!five_full(p.n, f.len(), f2.len(), fq.len(), g.len(), room))?;
     check_array(p, ArraySet::F, f)?;
     check_array(p, ArraySet::ReducedModulo2, f2)?;
     check_array(p, ArraySet::ReducedModuloQ, fq)?;

@@ -1,14 +1,9 @@
 -- What a call gives that opens to a message: an answer, and bytes that it was lent.
-use Rattle.std.specs.Prelude.{Err, Ok, Result}
+use Rattle.std.specs.Prelude.{Result}
 use Rattle.refusals.specs.declared.Refusal.{Refusal}
 use Rattle.std.specs.Prelude.{◌≡◌, List, ◌++◌, ℕ, length, drop}
 use Rattle.refusals.specs.Outcomes.{Outcome, done, refused}
-use Rattle.refusals.specs.Numbers.{number_of}
-
--- An answer as an outcome: a number of bytes, or a refusal.
-abbrev pub answer_of : Result ℕ Refusal → Outcome ℕ
-answer_of (Ok n) = done n
-answer_of (Err r) = refused (number_of r)
+use Rattle.refusals.specs.Numbers.{answered}
 
 -- The answer that an outcome calls for.
 abbrev pub length_of : Outcome (List ℕ) → Outcome ℕ
@@ -23,6 +18,6 @@ over (refused n) old = old
 -- A call that answered `r`, and left `new` in lent bytes that held `old`, has given this outcome.
 pub record GivesMessage (o : Outcome (List ℕ)) (r : Result ℕ Refusal) (old new : List ℕ) : Type 0 where
   -- It answers the length of the message, or the refusal.
-  pub answer : answer_of r ≡ length_of o
+  pub answer : answered r ≡ length_of o
   -- It leaves the message at the front, and the bytes behind it as they came; after a refusal all of them are as they came.
   pub left : new ≡ over o old

@@ -25,7 +25,13 @@ pub fn least(x: usize, y: usize) -> usize
 }
 
 // The message goes to the front of a lent one. Only an N that is refused has a longer one.
-fn open_message(p: Parameters, f: &[i32], f2: &[i32], e: &[i32], message: &mut [u8]) -> Result<usize, Refusal>
+fn open_message(
+    p: Parameters,
+    f: &[i32],
+    f2: &[i32],
+    e: &[i32],
+    message: &mut [u8],
+) -> Result<usize, Refusal>
     requires { length message.old ≡ 256 }
     ensures { GivesMessage (opening (set_of p) f.now f2.now e.now (message_bytes p.n)) result message.old message.new }
 {

@@ -11,7 +11,6 @@ mod sealed_files;
 
 use refusals::Refusal;
 
-
 // The message goes to the front of the lent bytes, which have room for the longest one. The bytes behind it, and all of them after a refusal, are as they came.
 pub fn open_input(input: &[u8], message: &mut [u8; 256]) -> Result<usize, Refusal>
     ensures { GivesMessage (opening_files input.now) result message.old message.new }

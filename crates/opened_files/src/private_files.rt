@@ -36,7 +36,11 @@ fn first_end(n: u32, all: usize) -> usize
     least(files::file_bytes(heads::kinds::PRIVATE, n), all)
 }
 
-pub(crate) fn open_private(p: Parameters, input: &[u8], message: &mut [u8; 256]) -> Result<usize, Refusal>
+pub(crate) fn open_private(
+    p: Parameters,
+    input: &[u8],
+    message: &mut [u8; 256],
+) -> Result<usize, Refusal>
     requires { reading_head 2 input.now ≡ done (set_of p) }
     ensures { GivesMessage (opening_files input.now) result message.old message.new }
 {

@@ -10,8 +10,8 @@ ghost use Rattle.opened_files.specs.Steps.{KeyRead, key_in, SealedRead, opening_
 
 use opened_arrays::open_pair;
 use parameters::Parameters;
-use stored_keys::key_refusal;
 use refusals::Refusal;
+use stored_keys::key_refusal;
 
 // The sealed array takes the place of Fq and g, which opening does not use. n is N of the key, m that of the sealed file.
 fn read_sealed(n: u32, m: u32, file: &[u8], numbers: &mut [i32]) -> Result<(), Refusal>

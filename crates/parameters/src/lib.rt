@@ -14,7 +14,7 @@ ghost use Rattle.parameters.specs.Sets.{set, set_of, outside, even, parameter_ch
 use refusals::Refusal;
 
 // N coefficients, the modulus q = (c, d), s nonzero coefficients of g and of the ephemeral φ, t of f.
-#[derive(Clone, Copy)]
+#[derive(Clone, Copy, Debug, PartialEq, Eq)]
 pub struct Parameters {
     pub n: u32,
     pub c: i32,
@@ -27,32 +27,21 @@ pub struct Parameters {
 pub fn out_of_range(x: u32, low: u32, high: u32) -> bool
     ensures { result ≡ outside low high x }
 {
-    if x < low {
-        return true;
-    }
-    high < x
+    x < low || high < x
 }
 
 // Whether both parts of the modulus are even.
 fn both_even(c: i32, d: i32) -> bool
     ensures { result ≡ (even c && even d) }
 {
-    let cw = c as i64;
-    if eisenstein::odd(cw) {
-        return false;
-    }
-    let dw = d as i64;
-    !eisenstein::odd(dw)
+    !eisenstein::odd(c as i64) && !eisenstein::odd(d as i64)
 }
 
 // Whether s is out of range or not a multiple of 3.
 fn bad_s(n: u32, s: u32) -> bool
     ensures { result ≡ (outside 3 n s || not (eqb (s % 3) 0)) }
 {
-    if out_of_range(s, Parameters::MIN_S, n) {
-        return true;
-    }
-    s % 3 != 0
+    out_of_range(s, Parameters::MIN_S, n) || s % 3 != 0
 }
 
 // Whether 4·(2s + t)² is not below the norm of (c, d), where s, t, c and d are in range.
@@ -103,12 +92,7 @@ impl Parameters {
     pub fn check(self) -> Result<(), Refusal>
         ensures { answered result ≡ outcome (parameter_checks (set_of self)) tt }
     {
-        let n = self.n;
-        let c = self.c;
-        let d = self.d;
-        let s = self.s;
-        let t = self.t;
-        check_numbers(n, c, d, s, t)
+        check_numbers(self.n, self.c, self.d, self.s, self.t)
     }
 
     // A parameter set that is accepted, or the first refusal.

@@ -47,7 +47,12 @@ fn numbers_of(places: &[PlacedUnit]) -> [u32; 2048]
 }
 
 // The numbers come by value, since the functions over records lend no local array.
-fn spread_laid(p: Parameters, numbers: [u32; 2048], count: usize, phi: &mut [i32]) -> Result<(), Refusal>
+fn spread_laid(
+    p: Parameters,
+    numbers: [u32; 2048],
+    count: usize,
+    phi: &mut [i32],
+) -> Result<(), Refusal>
     ensures { Gives (numbers_spreading (set_of p) numbers count (length phi.old))
         (number (answered result)) phi.old phi.new }
 {

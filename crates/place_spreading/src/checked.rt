@@ -27,7 +27,12 @@ pub(crate) fn has_lengths(n: u32, s: u32, count: usize, given: usize, room: usiz
 }
 
 // The refusals of a list's records. They are laid into x, an array of zeros, to see whether a place occurs twice and whether φ is in its set.
-fn places_refusal(p: Parameters, numbers: &[u32], count: usize, x: &mut [i32]) -> Result<(), Refusal>
+fn places_refusal(
+    p: Parameters,
+    numbers: &[u32],
+    count: usize,
+    x: &mut [i32],
+) -> Result<(), Refusal>
     requires passes { Passes (parameter_checks (set_of p)) × (count ≡ p.s) }
     requires x_len { (length x.old ≡ 2 * p.n) × Zeros x.old }
     ensures { answered result ≡ outcome (place_checks (set_of p) (records_from numbers.now 0 count)) tt }
@@ -43,7 +48,12 @@ fn places_refusal(p: Parameters, numbers: &[u32], count: usize, x: &mut [i32]) -
 }
 
 // Only a list that is not refused is laid into phi, so a refusal leaves phi as it came.
-pub(crate) fn spread_into(p: Parameters, numbers: &[u32], count: usize, phi: &mut [i32]) -> Result<(), Refusal>
+pub(crate) fn spread_into(
+    p: Parameters,
+    numbers: &[u32],
+    count: usize,
+    phi: &mut [i32],
+) -> Result<(), Refusal>
     requires { Passes (parameter_checks (set_of p)) × (count ≡ p.s) × (length phi.old ≡ 2 * p.n) }
     ensures { Gives (outcome (place_checks (set_of p) (records_from numbers.now 0 count))
         (array p.n (spread (records_from numbers.now 0 count))))

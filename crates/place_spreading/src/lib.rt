@@ -17,7 +17,12 @@ use parameters::Parameters;
 use refusals::Refusal;
 
 // Spreads the list of `count` records, laid out as numbers, to phi.
-pub fn spread_numbers(p: Parameters, numbers: &[u32], count: usize, phi: &mut [i32]) -> Result<(), Refusal>
+pub fn spread_numbers(
+    p: Parameters,
+    numbers: &[u32],
+    count: usize,
+    phi: &mut [i32],
+) -> Result<(), Refusal>
     ensures { Gives (numbers_spreading (set_of p) numbers.now count (length phi.old))
         (number (answered result)) phi.old phi.new }
 {

@@ -17,7 +17,13 @@ use parameters::Parameters;
 use refusals::Refusal;
 
 // Seals a message with the public key h and the ephemeral φ, to e.
-pub fn seal(p: Parameters, h: &[i32], phi: &[i32], message: &[u8], e: &mut [i32]) -> Result<(), Refusal>
+pub fn seal(
+    p: Parameters,
+    h: &[i32],
+    phi: &[i32],
+    message: &[u8],
+    e: &mut [i32],
+) -> Result<(), Refusal>
     ensures { Gives (sealing (set_of p) h.now phi.now message.now (length e.old))
         (number (answered result)) e.old e.new }
 {

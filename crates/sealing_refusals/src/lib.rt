@@ -14,15 +14,24 @@ use parameters::Parameters;
 use refusals::Refusal;
 
 // Those of the parameter set, 7 for all lengths, then h, φ and the message.
-pub fn sealing_refusal(p: Parameters, h: &[i32], phi: &[i32], message: &[u8], room: usize) -> Result<(), Refusal>
+pub fn sealing_refusal(
+    p: Parameters,
+    h: &[i32],
+    phi: &[i32],
+    message: &[u8],
+    room: usize,
+) -> Result<(), Refusal>
     ensures { answered result ≡ outcome (parameter_checks (set_of p) ++ sealing_checks (set_of p) h.now phi.now message.now room) tt }
 {
-    let n = p.n;
-    let lengths = packing::full_with_message(n, message.len(), h.len(), phi.len(), room);
-    let spare = packing::spare_bit_set(n, message);
     p.check()?;
-    Refusal::WrongLength.when(!lengths)?;
+    Refusal::WrongLength.when(!packing::full_with_message(
+        p.n,
+        message.len(),
+        h.len(),
+        phi.len(),
+        room,
+    ))?;
     check_array(p, ArraySet::ReducedModuloQ, h)?;
     check_array(p, ArraySet::Phi, phi)?;
-    Refusal::SpareBitSet.when(spare)
+    Refusal::SpareBitSet.when(packing::spare_bit_set(p.n, message))
 }

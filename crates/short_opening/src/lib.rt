@@ -35,7 +35,13 @@ fn open_bits(
 }
 
 // With room for the bits of every N.
-fn open_checked(p: Parameters, f: &[i32], f2: &[i32], e: &[i32], message: &mut [u8]) -> Result<usize, Refusal>
+fn open_checked(
+    p: Parameters,
+    f: &[i32],
+    f2: &[i32],
+    e: &[i32],
+    message: &mut [u8],
+) -> Result<usize, Refusal>
     requires { Passes (parameter_checks (set_of p)) × (length message.old ≡ longest_short p.n) }
     ensures { GivesMessage (short_opening (set_of p) f.now f2.now e.now (length message.old)) result message.old message.new }
 {
@@ -46,7 +52,13 @@ fn open_checked(p: Parameters, f: &[i32], f2: &[i32], e: &[i32], message: &mut [
 }
 
 // Opens the sealed array e with the private key f and F2. The short message goes to the front of message, which has as many bytes as the longest one.
-pub fn open_short(p: Parameters, f: &[i32], f2: &[i32], e: &[i32], message: &mut [u8]) -> Result<usize, Refusal>
+pub fn open_short(
+    p: Parameters,
+    f: &[i32],
+    f2: &[i32],
+    e: &[i32],
+    message: &mut [u8],
+) -> Result<usize, Refusal>
     ensures { GivesMessage (short_opening (set_of p) f.now f2.now e.now (length message.old)) result message.old message.new }
 {
     let n = p.n;

@@ -26,14 +26,11 @@ fn short_sealing_refusal(
 ) -> Result<(), Refusal>
     ensures { answered result ≡ outcome (parameter_checks (set_of p) ++ short_sealing_checks (set_of p) h.now phi.now message room) tt }
 {
-    let n = p.n;
-    let lengths = arrays::three_full(n, h.len(), phi.len(), room);
-    let long = too_long(n, message);
     p.check()?;
-    Refusal::WrongLength.when(!lengths)?;
+    Refusal::WrongLength.when(!arrays::three_full(p.n, h.len(), phi.len(), room))?;
     check_array(p, ArraySet::ReducedModuloQ, h)?;
     check_array(p, ArraySet::Phi, phi)?;
-    Refusal::ShortMessageTooLong.when(long)
+    Refusal::ShortMessageTooLong.when(too_long(p.n, message))
 }
 
 // The 2N bits go to lent bytes, and are sealed as a message.
@@ -54,7 +51,13 @@ fn seal_bits(
 }
 
 // A message that is too long meets the first refusal due, 26 at the latest. The bits of another are sealed, with room for those of every N.
-fn seal_checked(p: Parameters, h: &[i32], phi: &[i32], message: &[u8], e: &mut [i32]) -> Result<(), Refusal>
+fn seal_checked(
+    p: Parameters,
+    h: &[i32],
+    phi: &[i32],
+    message: &[u8],
+    e: &mut [i32],
+) -> Result<(), Refusal>
     requires { Passes (parameter_checks (set_of p)) }
     ensures { Gives (short_sealing (set_of p) h.now phi.now message.now (length e.old))
         (number (answered result)) e.old e.new }
@@ -69,7 +72,13 @@ fn seal_checked(p: Parameters, h: &[i32], phi: &[i32], message: &[u8], e: &mut [
 }
 
 // Seals a short message with the public key h and the ephemeral φ, to e.
-pub fn seal_short(p: Parameters, h: &[i32], phi: &[i32], message: &[u8], e: &mut [i32]) -> Result<(), Refusal>
+pub fn seal_short(
+    p: Parameters,
+    h: &[i32],
+    phi: &[i32],
+    message: &[u8],
+    e: &mut [i32],
+) -> Result<(), Refusal>
     ensures { Gives (short_sealing (set_of p) h.now phi.now message.now (length e.old))
         (number (answered result)) e.old e.new }
 {

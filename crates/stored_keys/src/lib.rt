@@ -13,7 +13,13 @@ use parameters::Parameters;
 use refusals::Refusal;
 
 // The key check with Fq and g one after another. The public key that it forms goes to a lent array.
-fn check_parts(p: Parameters, f: &[i32], f2: &[i32], rest: &[i32], h: &mut [i32]) -> Result<(), Refusal>
+fn check_parts(
+    p: Parameters,
+    f: &[i32],
+    f2: &[i32],
+    rest: &[i32],
+    h: &mut [i32],
+) -> Result<(), Refusal>
     requires { length rest.now ≡ 4 * p.n }
     ensures { number (answered result) ≡ number (key_check_in (set_of p) f.now f2.now rest.now (length h.old)) }
 {

@@ -17,7 +17,13 @@ use parameters::Parameters;
 use refusals::Refusal;
 
 // Opens the sealed array e with the private key f and F2. The message goes to message.
-pub fn open(p: Parameters, f: &[i32], f2: &[i32], e: &[i32], message: &mut [u8]) -> Result<(), Refusal>
+pub fn open(
+    p: Parameters,
+    f: &[i32],
+    f2: &[i32],
+    e: &[i32],
+    message: &mut [u8],
+) -> Result<(), Refusal>
     ensures { Gives (opening (set_of p) f.now f2.now e.now (length message.old))
         (number (answered result)) message.old message.new }
 {

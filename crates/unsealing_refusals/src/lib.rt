@@ -14,13 +14,17 @@ use parameters::Parameters;
 use refusals::Refusal;
 
 // Those of the parameter set, 7 for all lengths, then f, F2 and e.
-pub fn opening_refusal(p: Parameters, f: &[i32], f2: &[i32], e: &[i32], room: usize) -> Result<(), Refusal>
+pub fn opening_refusal(
+    p: Parameters,
+    f: &[i32],
+    f2: &[i32],
+    e: &[i32],
+    room: usize,
+) -> Result<(), Refusal>
     ensures { answered result ≡ outcome (parameter_checks (set_of p) ++ opening_checks (set_of p) f.now f2.now e.now room) tt }
 {
-    let n = p.n;
-    let lengths = packing::full_with_message(n, room, f.len(), f2.len(), e.len());
     p.check()?;
-    Refusal::WrongLength.when(!lengths)?;
+    Refusal::WrongLength.when(!packing::full_with_message(p.n, room, f.len(), f2.len(), e.len()))?;
     check_array(p, ArraySet::F, f)?;
     check_array(p, ArraySet::ReducedModulo2, f2)?;
     check_array(p, ArraySet::ReducedModuloQ, e)

@@ -2,6 +2,7 @@
 use mathlib.Core.Path.{sym, ◌∙◌, ap}
 use mathlib.Core.List.{List}
 use borrow.Author.Rules.{rules}
+use Rattle.refusals.proofs.Errors.{passed_on}
 use Rattle.refusals.specs.Outcomes.{Check, Passes}
 use Rattle.refusals.specs.Numbers.{answered}
 use Rattle.refusals.proofs.Checks.{passed_all, refused_first}
@@ -19,9 +20,9 @@ checks s = array_checks (P s) s.args.which s.args.x.now
 pub returns : goal.returns
 unfolding array_check
 returns c =
-    let accepted : Passes (parameter_checks (P (goal.at.returns c).Start)) = sym c.check.ensures ∙ ap answered c.in_ok-check.was in
+    let accepted : Passes (parameter_checks (P (goal.at.returns c).Start)) = sym c.in_ok-check.ensures in
     c.array_refusal.ensures ∙ sym (passed_all (parameter_checks (P (goal.at.returns c).Start)) (checks (goal.at.returns c).Start) tt accepted)
 
 pub returns-in_err-check : goal.returns-in_err-check
 unfolding array_check
-returns-in_err-check c = sym (refused_first (parameter_checks (P (goal.at.returns-in_err-check c).Start)) (checks (goal.at.returns-in_err-check c).Start) tt _ (sym c.check.ensures ∙ ap answered c.in_err-check.was))
+returns-in_err-check c = passed_on _ _ c.from_residual.ensures.1 ∙ sym (refused_first (parameter_checks (P (goal.at.returns-in_err-check c).Start)) (checks (goal.at.returns-in_err-check c).Start) tt _ (sym c.in_err-check.ensures))

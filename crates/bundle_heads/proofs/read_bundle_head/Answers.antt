@@ -24,15 +24,15 @@ unfolding reading_parameters count_checks reading_head
 returns c =
     let head_is : let file = c.args.file.now in made c.read_head.result ≡ outcome (bundle_head_checks file) (head_of file) = c.read_head.ensures in
     let file = c.args.file.now in
-    let p = c.in_ok-read_head.p in
-    let k = made_accepted (bundle_head_checks file) (head_of file) p (sym (ap made c.in_ok-read_head.was) ∙ head_is) in
+    let p = c.in_ok-p.p in
+    let k = made_accepted (bundle_head_checks file) (head_of file) p (sym (ap made c.in_ok-p.was) ∙ head_is) in
     c.counted.ensures
     ∙ ap (λ (q : ParameterSet). outcome (length_check file q) q) (sym k.1)
     ∙ sym (passed_all (bundle_head_checks file) (length_check file (head_of file)) (head_of file) k.0)
 
-pub returns-in_err-read_head : goal.returns-in_err-read_head
+pub returns-in_err-p : goal.returns-in_err-p
 unfolding reading_parameters count_checks reading_head
-returns-in_err-read_head c =
+returns-in_err-p c =
     let head_is : let file = c.args.file.now in made c.read_head.result ≡ outcome (bundle_head_checks file) (head_of file) = c.read_head.ensures in
     let file = c.args.file.now in
-    sym (refused_first (bundle_head_checks file) (length_check file (head_of file)) (head_of file) _ (made_refused (bundle_head_checks file) (head_of file) c.in_err-read_head.refusal (sym (ap made c.in_err-read_head.was) ∙ head_is)))
+    sym (refused_first (bundle_head_checks file) (length_check file (head_of file)) (head_of file) _ (made_refused (bundle_head_checks file) (head_of file) c.in_err-p.field-0.0 (sym (ap made c.in_err-p.was) ∙ head_is)))

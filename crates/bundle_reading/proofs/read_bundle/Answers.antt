@@ -23,20 +23,20 @@ pub read_entries-requires : goal.read_entries-requires
 unfolding reading_stops reading_numbers reading_checks reading_parameters
 read_entries-requires c =
     let head_is : made c.read_bundle_head.result ≡ outcome (count_checks (file (goal.at.read_entries-requires c).Start)) (head_of (file (goal.at.read_entries-requires c).Start)) = c.read_bundle_head.ensures in
-    let accepted : Passes (count_checks (file (goal.at.read_entries-requires c).Start)) × (head_of (file (goal.at.read_entries-requires c).Start) ≡ set_of c.in_ok-read_bundle_head.p) = made_accepted (count_checks (file (goal.at.read_entries-requires c).Start)) (head_of (file (goal.at.read_entries-requires c).Start)) c.in_ok-read_bundle_head.p (sym (ap made c.in_ok-read_bundle_head.was) ∙ head_is) in
+    let accepted : Passes (count_checks (file (goal.at.read_entries-requires c).Start)) × (head_of (file (goal.at.read_entries-requires c).Start) ≡ set_of c.in_ok-p.p) = made_accepted (count_checks (file (goal.at.read_entries-requires c).Start)) (head_of (file (goal.at.read_entries-requires c).Start)) c.in_ok-p.p (sym (ap made c.in_ok-p.was) ∙ head_is) in
     let a = accepted in (sym a.1, a.0)
 
 pub returns : goal.returns
 unfolding reading_stops reading_numbers reading_checks reading_parameters
 returns c =
     let head_is : made c.read_bundle_head.result ≡ outcome (count_checks (file (goal.at.returns c).Start)) (head_of (file (goal.at.returns c).Start)) = c.read_bundle_head.ensures in
-    let accepted : Passes (count_checks (file (goal.at.returns c).Start)) × (head_of (file (goal.at.returns c).Start) ≡ set_of c.in_ok-read_bundle_head.p) = made_accepted (count_checks (file (goal.at.returns c).Start)) (head_of (file (goal.at.returns c).Start)) c.in_ok-read_bundle_head.p (sym (ap made c.in_ok-read_bundle_head.was) ∙ head_is) in
+    let accepted : Passes (count_checks (file (goal.at.returns c).Start)) × (head_of (file (goal.at.returns c).Start) ≡ set_of c.in_ok-p.p) = made_accepted (count_checks (file (goal.at.returns c).Start)) (head_of (file (goal.at.returns c).Start)) c.in_ok-p.p (sym (ap made c.in_ok-p.was) ∙ head_is) in
     let e = c.read_entries.ensures in
     record { gives = gives_same c.args.stops.now (passed_all (count_checks (file (goal.at.returns c).Start)) (outputs (goal.at.returns c).Start) _ accepted.0) e.gives; gives_2 = gives_same c.args.numbers.now (passed_all (count_checks (file (goal.at.returns c).Start)) (outputs (goal.at.returns c).Start) _ accepted.0) e.gives_2 }
 
-pub returns-in_err-read_bundle_head : goal.returns-in_err-read_bundle_head
+pub returns-in_err-p : goal.returns-in_err-p
 unfolding reading_stops reading_numbers reading_checks reading_parameters
-returns-in_err-read_bundle_head c =
-    let head_is : made c.read_bundle_head.result ≡ outcome (count_checks (file (goal.at.returns-in_err-read_bundle_head c).Start)) (head_of (file (goal.at.returns-in_err-read_bundle_head c).Start)) = c.read_bundle_head.ensures in
-    let f = refused_first (count_checks (file (goal.at.returns-in_err-read_bundle_head c).Start)) (outputs (goal.at.returns-in_err-read_bundle_head c).Start) tt _ (made_refused (count_checks (file (goal.at.returns-in_err-read_bundle_head c).Start)) (head_of (file (goal.at.returns-in_err-read_bundle_head c).Start)) c.in_err-read_bundle_head.refusal (sym (ap made c.in_err-read_bundle_head.was) ∙ head_is)) in
-    record { gives = gives_refused (count_checks (file (goal.at.returns-in_err-read_bundle_head c).Start) ++ outputs (goal.at.returns-in_err-read_bundle_head c).Start) _ c.args.stops.now _ f; gives_2 = gives_refused (count_checks (file (goal.at.returns-in_err-read_bundle_head c).Start) ++ outputs (goal.at.returns-in_err-read_bundle_head c).Start) _ c.args.numbers.now _ f }
+returns-in_err-p c =
+    let head_is : made c.read_bundle_head.result ≡ outcome (count_checks (file (goal.at.returns-in_err-p c).Start)) (head_of (file (goal.at.returns-in_err-p c).Start)) = c.read_bundle_head.ensures in
+    let f = refused_first (count_checks (file (goal.at.returns-in_err-p c).Start)) (outputs (goal.at.returns-in_err-p c).Start) tt _ (made_refused (count_checks (file (goal.at.returns-in_err-p c).Start)) (head_of (file (goal.at.returns-in_err-p c).Start)) c.in_err-p.field-0.0 (sym (ap made c.in_err-p.was) ∙ head_is)) in
+    record { gives = gives_refused (count_checks (file (goal.at.returns-in_err-p c).Start) ++ outputs (goal.at.returns-in_err-p c).Start) _ c.args.stops.now _ f; gives_2 = gives_refused (count_checks (file (goal.at.returns-in_err-p c).Start) ++ outputs (goal.at.returns-in_err-p c).Start) _ c.args.numbers.now _ f }

@@ -42,15 +42,15 @@ returns c =
     let outputs : (length c.args.stops.now ≡ count_of (file (goal.at.returns c).Start)) × (length c.args.numbers.now ≡ 2 * (head_of (file (goal.at.returns c).Start)).N * count_of (file (goal.at.returns c).Start)) = are_equal_2 _ _ _ _ right in
     let passed_7 : outcome (checks (goal.at.returns c).Start) (tt {0}) ≡ outcome (entries (goal.at.returns c).Start) (tt {0}) = holds_passed 7 (right_outputs (head_of (file (goal.at.returns c).Start)).N (count_of (file (goal.at.returns c).Start)) (length c.args.stops.now) (length c.args.numbers.now)) (entries (goal.at.returns c).Start) tt right in
     let rest : outcome (bundle_checks (file (goal.at.returns c).Start)) (tt {0}) ≡ outcome (entries (goal.at.returns c).Start) (tt {0}) = passed_all (count_checks (file (goal.at.returns c).Start)) (entries (goal.at.returns c).Start) tt c.requires.1 in
-    let all_passed : Passes (checks (goal.at.returns c).Start) = passed_7 ∙ sym rest ∙ (made_accepted (bundle_checks (file (goal.at.returns c).Start)) (head_of (file (goal.at.returns c).Start)) _ (sym (ap made c.in_ok-check_bundle.was) ∙ c.check_bundle.ensures)).0 in
+    let all_passed : Passes (checks (goal.at.returns c).Start) = passed_7 ∙ sym rest ∙ (made_accepted (bundle_checks (file (goal.at.returns c).Start)) (head_of (file (goal.at.returns c).Start)) _ (sym (ap made c.in_ok-checked.was) ∙ c.check_bundle.ensures)).0 in
     let p = all_passed in record { gives = gives_done (checks (goal.at.returns c).Start) _ c.args.stops.now _ p (was_formed _ _ (eq-eqb _ _ outputs.0) c.read_stops.ensures).1; gives_2 = gives_done (checks (goal.at.returns c).Start) _ c.args.numbers.now _ p c.read_arrays.ensures }
 
-pub returns-in_err-check_bundle : goal.returns-in_err-check_bundle
+pub returns-in_err-checked : goal.returns-in_err-checked
 unfolding bundle_checks
-returns-in_err-check_bundle c =
-    let tested : c.outputs_right.result ≡ right_outputs (head_of (file (goal.at.returns-in_err-check_bundle c).Start)).N (count_of (file (goal.at.returns-in_err-check_bundle c).Start)) (length c.args.stops.now) (length c.args.numbers.now) = c.outputs_right.ensures ∙ ap (λ (p : ParameterSet). right_outputs p.N (count_of (file (goal.at.returns-in_err-check_bundle c).Start)) (length c.args.stops.now) (length c.args.numbers.now)) c.requires.0 in
-    let right : T (right_outputs (head_of (file (goal.at.returns-in_err-check_bundle c).Start)).N (count_of (file (goal.at.returns-in_err-check_bundle c).Start)) (length c.args.stops.now) (length c.args.numbers.now)) = holds tested (ap not c.if-not-outputs_right.false) in
-    let passed_7 : outcome (checks (goal.at.returns-in_err-check_bundle c).Start) (tt {0}) ≡ outcome (entries (goal.at.returns-in_err-check_bundle c).Start) (tt {0}) = holds_passed 7 (right_outputs (head_of (file (goal.at.returns-in_err-check_bundle c).Start)).N (count_of (file (goal.at.returns-in_err-check_bundle c).Start)) (length c.args.stops.now) (length c.args.numbers.now)) (entries (goal.at.returns-in_err-check_bundle c).Start) tt right in
-    let rest : outcome (bundle_checks (file (goal.at.returns-in_err-check_bundle c).Start)) (tt {0}) ≡ outcome (entries (goal.at.returns-in_err-check_bundle c).Start) (tt {0}) = passed_all (count_checks (file (goal.at.returns-in_err-check_bundle c).Start)) (entries (goal.at.returns-in_err-check_bundle c).Start) tt c.requires.1 in
-    let f = passed_7 ∙ sym rest ∙ made_refused (bundle_checks (file (goal.at.returns-in_err-check_bundle c).Start)) (head_of (file (goal.at.returns-in_err-check_bundle c).Start)) c.in_err-check_bundle.refusal (sym (ap made c.in_err-check_bundle.was) ∙ c.check_bundle.ensures) in
-    record { gives = gives_refused (checks (goal.at.returns-in_err-check_bundle c).Start) _ c.args.stops.now _ f; gives_2 = gives_refused (checks (goal.at.returns-in_err-check_bundle c).Start) _ c.args.numbers.now _ f }
+returns-in_err-checked c =
+    let tested : c.outputs_right.result ≡ right_outputs (head_of (file (goal.at.returns-in_err-checked c).Start)).N (count_of (file (goal.at.returns-in_err-checked c).Start)) (length c.args.stops.now) (length c.args.numbers.now) = c.outputs_right.ensures ∙ ap (λ (p : ParameterSet). right_outputs p.N (count_of (file (goal.at.returns-in_err-checked c).Start)) (length c.args.stops.now) (length c.args.numbers.now)) c.requires.0 in
+    let right : T (right_outputs (head_of (file (goal.at.returns-in_err-checked c).Start)).N (count_of (file (goal.at.returns-in_err-checked c).Start)) (length c.args.stops.now) (length c.args.numbers.now)) = holds tested (ap not c.if-not-outputs_right.false) in
+    let passed_7 : outcome (checks (goal.at.returns-in_err-checked c).Start) (tt {0}) ≡ outcome (entries (goal.at.returns-in_err-checked c).Start) (tt {0}) = holds_passed 7 (right_outputs (head_of (file (goal.at.returns-in_err-checked c).Start)).N (count_of (file (goal.at.returns-in_err-checked c).Start)) (length c.args.stops.now) (length c.args.numbers.now)) (entries (goal.at.returns-in_err-checked c).Start) tt right in
+    let rest : outcome (bundle_checks (file (goal.at.returns-in_err-checked c).Start)) (tt {0}) ≡ outcome (entries (goal.at.returns-in_err-checked c).Start) (tt {0}) = passed_all (count_checks (file (goal.at.returns-in_err-checked c).Start)) (entries (goal.at.returns-in_err-checked c).Start) tt c.requires.1 in
+    let f = passed_7 ∙ sym rest ∙ made_refused (bundle_checks (file (goal.at.returns-in_err-checked c).Start)) (head_of (file (goal.at.returns-in_err-checked c).Start)) c.in_err-checked.field-0.0 (sym (ap made c.in_err-checked.was) ∙ c.check_bundle.ensures) in
+    record { gives = gives_refused (checks (goal.at.returns-in_err-checked c).Start) _ c.args.stops.now _ f; gives_2 = gives_refused (checks (goal.at.returns-in_err-checked c).Start) _ c.args.numbers.now _ f }

@@ -3,6 +3,7 @@ use mathlib.Core.Path.{◌≡◌, sym, ◌∙◌, ap}
 use mathlib.Core.List.{◌++◌}
 use borrow.Author.Rules.{rules}
 use lib.ListN.{length}
+use Rattle.refusals.proofs.Errors.{gives_passed_on}
 use Rattle.refusals.specs.Outcomes.{outcome}
 use Rattle.refusals.specs.Numbers.{answered}
 use Rattle.refusals.proofs.Checks.{refused_first, gives_refused}
@@ -16,4 +17,4 @@ returns-in_err-check c =
     let checked : answered c.check.result ≡ outcome (parameter_checks (set_of c.args.p)) (tt {0}) = c.check.ensures in
     let p = set_of c.args.p in
     let rest = given_checks p c.args.stops.now c.args.numbers.now (length c.args.file.now) in
-    gives_refused (parameter_checks p ++ rest) _ c.args.file.now _ (refused_first (parameter_checks p) rest tt _ (sym checked ∙ ap answered c.in_err-check.was))
+    gives_passed_on (parameter_checks p ++ rest) _ c.args.file.now _ _ c.from_residual.ensures.1 (refused_first (parameter_checks p) rest tt _ (sym checked ∙ ap answered c.in_err-check.was))

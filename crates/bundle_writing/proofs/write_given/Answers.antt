@@ -4,6 +4,7 @@ use mathlib.Core.List.{List}
 use Prim.Native.Nat.{ℕ}
 use borrow.Author.Rules.{rules}
 use lib.ListN.{length}
+use Rattle.refusals.proofs.Errors.{gives_passed_on}
 use Rattle.refusals.specs.Outcomes.{Check, outcome, Passes}
 use Rattle.refusals.specs.Numbers.{answered}
 use Rattle.refusals.proofs.Checks.{passed_all, gives_done, gives_refused}
@@ -31,7 +32,7 @@ whole s = passed_all (parameter_checks (set_of s.args.p)) (checks s) tt s.requir
 pub write_file-requires : goal.write_file-requires
 unfolding writing_bundle
 write_file-requires c =
-    let all_passed : Passes (writing_checks (set_of c.args.p) c.args.stops.now c.args.numbers.now (room (goal.at.write_file-requires c).Start)) = whole (goal.at.write_file-requires c).Start ∙ sym c.given_refusal.ensures ∙ ap answered c.in_ok-given_refusal.was in
+    let all_passed : Passes (writing_checks (set_of c.args.p) c.args.stops.now c.args.numbers.now (room (goal.at.write_file-requires c).Start)) = whole (goal.at.write_file-requires c).Start ∙ sym c.in_ok-given_refusal.ensures in
     let written_by : Written (set_of c.args.p) c.args.stops.now c.args.numbers.now (room (goal.at.write_file-requires c).Start) = writing_passed (set_of c.args.p) c.args.stops.now c.args.numbers.now (room (goal.at.write_file-requires c).Start) all_passed in
     let small : Small c.args.numbers.now = let p = set_of c.args.p in
     let w = written_by in
@@ -42,9 +43,9 @@ write_file-requires c =
 pub returns : goal.returns
 unfolding writing_bundle
 returns c =
-    let all_passed : Passes (writing_checks (set_of c.args.p) c.args.stops.now c.args.numbers.now (room (goal.at.returns c).Start)) = whole (goal.at.returns c).Start ∙ sym c.given_refusal.ensures ∙ ap answered c.in_ok-given_refusal.was in
+    let all_passed : Passes (writing_checks (set_of c.args.p) c.args.stops.now c.args.numbers.now (room (goal.at.returns c).Start)) = whole (goal.at.returns c).Start ∙ sym c.in_ok-given_refusal.ensures in
     gives_done (writing_checks (set_of c.args.p) c.args.stops.now c.args.numbers.now (room (goal.at.returns c).Start)) _ c.args.file.now _ all_passed c.write_file.ensures
 
 pub returns-in_err-given_refusal : goal.returns-in_err-given_refusal
 unfolding writing_bundle
-returns-in_err-given_refusal c = gives_refused (writing_checks (set_of c.args.p) c.args.stops.now c.args.numbers.now (room (goal.at.returns-in_err-given_refusal c).Start)) _ c.args.file.now _ (whole (goal.at.returns-in_err-given_refusal c).Start ∙ sym c.given_refusal.ensures ∙ ap answered c.in_err-given_refusal.was)
+returns-in_err-given_refusal c = gives_passed_on (writing_checks (set_of c.args.p) c.args.stops.now c.args.numbers.now (room (goal.at.returns-in_err-given_refusal c).Start)) _ c.args.file.now _ _ c.from_residual.ensures.1 (whole (goal.at.returns-in_err-given_refusal c).Start ∙ sym c.in_err-given_refusal.ensures)

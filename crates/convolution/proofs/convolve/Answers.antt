@@ -8,6 +8,7 @@ use borrow.Author.Rules.{rules}
 use lib.Dec.{leb}
 use lib.IntN.{ℤ}
 use lib.ListN.{length}
+use Rattle.refusals.proofs.Errors.{passed_on}
 use Rattle.refusals.specs.Outcomes.{Check, Outcome, Passes, done, refused, outcome, number, written}
 use Rattle.refusals.proofs.Checks.{carried, carried_refused, outcome_carried, done_with, done_parts}
 use Rattle.eisenstein.specs.Values.{ℤ[ω]}
@@ -17,7 +18,7 @@ use Rattle.parameters.specs.Sets.{ParameterSet, set_of, parameter_checks}
 use Rattle.polynomials.specs.Polynomials.{coefficient, array, convolution}
 use Rattle.convolution_refusals.specs.Checks.{convolving_checks}
 use Rattle.convolution.specs.Calls.{convolving}
-use Rattle.halved_products.specs.Calls.{beginning, answered, left}
+use Rattle.halved_products.specs.Calls.{beginning, left}
 use Rattle.halved_products.proofs.Operands.{convolving_passed, convolvable_handed}
 use Rattle.convolution.proofs.Copies.{convolvable_to}
 use Rattle.convolution.proofs.convolve.Goals as goal
@@ -44,8 +45,8 @@ refused_any {A} {B} cs a b n e = outcome_carried (λ (_ : A). b) cs a ∙ ap (ca
 pub convolve_unless-requires : goal.convolve_unless-requires
 unfolding convolving beginning
 convolve_unless-requires c =
-    let formed : Bool = c.in_ok-convolve_up_to_16.formed in
-    let told : outcome (checks (goal.at.convolve_unless-requires c).Start) (leb (P (goal.at.convolve_unless-requires c).Start).N 16) ≡ done formed = sym c.convolve_up_to_16.ensures.0 ∙ ap answered c.in_ok-convolve_up_to_16.was in
+    let formed : Bool = c.in_ok-formed.formed in
+    let told : outcome (checks (goal.at.convolve_unless-requires c).Start) (leb (P (goal.at.convolve_unless-requires c).Start).N 16) ≡ done formed = sym c.in_ok-formed.ensures.0 in
     let all_passed : Passes (checks (goal.at.convolve_unless-requires c).Start) × (leb (P (goal.at.convolve_unless-requires c).Start).N 16 ≡ formed) = done_parts (checks (goal.at.convolve_unless-requires c).Start) (leb (P (goal.at.convolve_unless-requires c).Start).N 16) formed told in
     let o = c.convolve_up_to_16 in
     (sym all_passed.1, convolvable_handed (P (goal.at.convolve_unless-requires c).Start).N c.args.x.now c.args.y.now o.new.out (search rules) (search rules) (convolvable_to o.new.out o.auto.out (convolving_passed (P (goal.at.convolve_unless-requires c).Start) c.args.x.now c.args.y.now c.args.out.now all_passed.0)))
@@ -53,17 +54,17 @@ convolve_unless-requires c =
 pub returns : goal.returns
 unfolding convolving beginning
 returns c =
-    let formed : Bool = c.in_ok-convolve_up_to_16.formed in
-    let told : outcome (checks (goal.at.returns c).Start) (leb (P (goal.at.returns c).Start).N 16) ≡ done formed = sym c.convolve_up_to_16.ensures.0 ∙ ap answered c.in_ok-convolve_up_to_16.was in
+    let formed : Bool = c.in_ok-formed.formed in
+    let told : outcome (checks (goal.at.returns c).Start) (leb (P (goal.at.returns c).Start).N 16) ≡ done formed = sym c.in_ok-formed.ensures.0 in
     let all_passed : Passes (checks (goal.at.returns c).Start) × (leb (P (goal.at.returns c).Start).N 16 ≡ formed) = done_parts (checks (goal.at.returns c).Start) (leb (P (goal.at.returns c).Start).N 16) formed told in
     let begun = c.convolve_up_to_16 in
     let v = value_of (goal.at.returns c).Start (P (goal.at.returns c).Start).q in
     let o = done_with (checks (goal.at.returns c).Start) v all_passed.0 in
     (sym (ap number o), either formed v c.args.out.now (begun.ensures.1 ∙ ap (λ (x : Outcome Bool). left x v c.args.out.now) told) (c.convolve_unless.ensures ∙ ap (λ (q : ℤ[ω]). cond formed begun.new.out (value_of (goal.at.returns c).Start q)) (pair_read {w = w32} (search rules) (search rules))) ∙ sym (ap (λ (x : Outcome (List ℤ)). written x c.args.out.now) o))
 
-pub returns-in_err-convolve_up_to_16 : goal.returns-in_err-convolve_up_to_16
+pub returns-in_err-formed : goal.returns-in_err-formed
 unfolding convolving beginning
-returns-in_err-convolve_up_to_16 c = let v = value_of (goal.at.returns-in_err-convolve_up_to_16 c).Start (P (goal.at.returns-in_err-convolve_up_to_16 c).Start).q in
-    let e = sym c.convolve_up_to_16.ensures.0 ∙ ap answered c.in_err-convolve_up_to_16.was in
-    let o = refused_any (checks (goal.at.returns-in_err-convolve_up_to_16 c).Start) (leb (P (goal.at.returns-in_err-convolve_up_to_16 c).Start).N 16) v _ e in
-    (sym (ap number o), c.convolve_up_to_16.ensures.1 ∙ ap (λ (x : Outcome Bool). left x v c.args.out.now) e ∙ sym (ap (λ (x : Outcome (List ℤ)). written x c.args.out.now) o))
+returns-in_err-formed c = let v = value_of (goal.at.returns-in_err-formed c).Start (P (goal.at.returns-in_err-formed c).Start).q in
+    let e = sym c.in_err-formed.ensures.0 in
+    let o = refused_any (checks (goal.at.returns-in_err-formed c).Start) (leb (P (goal.at.returns-in_err-formed c).Start).N 16) v _ e in
+    (ap number (passed_on _ _ c.from_residual.ensures.1) ∙ sym (ap number o), c.convolve_up_to_16.ensures.1 ∙ ap (λ (x : Outcome Bool). left x v c.args.out.now) e ∙ sym (ap (λ (x : Outcome (List ℤ)). written x c.args.out.now) o))

@@ -3,6 +3,7 @@ use mathlib.Core.Path.{◌≡◌, sym, ◌∙◌, ap}
 use borrow.Author.Rules.{rules}
 use mir.Syntax.{w32}
 use mir.Val.{to_z, of_z}
+use Rattle.refusals.proofs.Errors.{passed_on}
 use Rattle.refusals.specs.Outcomes.{outcome, Passes}
 use Rattle.refusals.specs.Numbers.{answered}
 use Rattle.refusals.proofs.Checks.{passed_all, refused_first}
@@ -17,7 +18,7 @@ use Rattle.convolution_refusals.proofs.convolving_refusal.Goals as goal
 
 pub operand_refusal-requires : goal.operand_refusal-requires
 operand_refusal-requires c =
-    let accepted : Passes (parameter_checks (set_of c.args.p)) = sym c.check.ensures ∙ ap answered c.in_ok-check.was in
+    let accepted : Passes (parameter_checks (set_of c.args.p)) = sym c.in_ok-check.ensures in
     let modulus : let p = c.args.p in Modulus (value p.c p.d) = let p = set_of c.args.p in
     let a = accepted_parameters p accepted in
     record { in_range = a.q_small; not_zero = modulus_nonzero p a } in
@@ -25,11 +26,11 @@ operand_refusal-requires c =
 
 pub returns : goal.returns
 returns c =
-    let accepted : Passes (parameter_checks (set_of c.args.p)) = sym c.check.ensures ∙ ap answered c.in_ok-check.was in
+    let accepted : Passes (parameter_checks (set_of c.args.p)) = sym c.in_ok-check.ensures in
     let read_q : let p = c.args.p in value (to_z w32 (of_z w32 p.c)) (to_z w32 (of_z w32 p.d)) ≡ value p.c p.d = pair_read {w = w32} (search rules) (search rules) in
     c.operand_refusal.ensures
     ∙ ap (λ (q : ℤ[ω]). outcome (convolving_checks c.args.p.n q c.args.x.now c.args.y.now c.args.room) (tt {0})) read_q
     ∙ sym (passed_all (parameter_checks (set_of c.args.p)) _ tt accepted)
 
 pub returns-in_err-check : goal.returns-in_err-check
-returns-in_err-check c = sym (refused_first _ _ tt _ (sym c.check.ensures ∙ ap answered c.in_err-check.was))
+returns-in_err-check c = passed_on _ _ c.from_residual.ensures.1 ∙ sym (refused_first _ _ tt _ (sym c.in_err-check.ensures))

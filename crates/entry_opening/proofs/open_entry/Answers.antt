@@ -10,4 +10,4 @@ use Rattle.entry_opening.proofs.open_entry.Goals as goal
 
 pub returns-in_err-check : goal.returns-in_err-check
 returns-in_err-check c = gives_same c.args.message.now
-    (parameters_refused (set_of c.args.p) c.args.f.now c.args.f2.now c.args.part.now (length c.args.message.now) (sym c.check.ensures ∙ ap answered c.in_err-check.was)) (refl, refl)
+    (parameters_refused (set_of c.args.p) c.args.f.now c.args.f2.now c.args.part.now (length c.args.message.now) (sym c.in_err-check.ensures)) (refl, refl)

@@ -4,6 +4,8 @@ use mathlib.Core.List.{List, ◌++◌}
 use Prim.Native.Nat.{ℕ}
 use borrow.Author.Rules.{rules}
 use lib.ListN.{length}
+use Rattle.refusals.proofs.Errors.{passed_on}
+use Rattle.refusals.specs.Outcomes.{number}
 use Rattle.refusals.specs.Outcomes.{Check, Outcome, outcome, Passes}
 use Rattle.refusals.specs.Numbers.{answered}
 use Rattle.refusals.proofs.Checks.{holds, passed_all, refused_first, gives_same}
@@ -46,4 +48,4 @@ returns-in_err-check c =
     let after_19 : whole (goal.at.returns-in_err-check c).Start ≡ outcome (from_parameters (goal.at.returns-in_err-check c).Start) (value_of (goal.at.returns-in_err-check c).Start) = kind_passed c.args.kind (P (goal.at.returns-in_err-check c).Start) c.args.numbers.now (length c.args.file.now) c.known_kind.ensures (ap not c.if-not-known_kind.false) in
     gives_same c.args.file.now
     (after_19 ∙ refused_first (parameter_checks (P (goal.at.returns-in_err-check c).Start)) (content (goal.at.returns-in_err-check c).Start) (value_of (goal.at.returns-in_err-check c).Start) _ (sym check_is ∙ ap answered c.in_err-check.was))
-    (refl, refl)
+    (ap number (passed_on _ _ c.from_residual.ensures.1), refl)

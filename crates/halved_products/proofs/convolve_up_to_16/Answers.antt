@@ -7,6 +7,7 @@ use lib.Dec.{leb}
 use lib.IntN.{ℤ}
 use lib.ListN.{length}
 use mir.Syntax.{w32}
+use Rattle.refusals.proofs.Errors.{passed_on}
 use Rattle.refusals.specs.Outcomes.{Check, Outcome, done, outcome}
 use Rattle.refusals.specs.Numbers.{answered as answer}
 use Rattle.refusals.proofs.Checks.{done_with, refused_with}
@@ -52,4 +53,4 @@ unfolding beginning
 returns-in_err-convolving_refusal c =
     let p = set_of c.args.p in
     let o = refused_with (checks p c.args.x.now c.args.y.now c.args.out.now) (leb p.N 16) _ (sym c.convolving_refusal.ensures ∙ ap answer c.in_err-convolving_refusal.was) in
-    (sym o, left_by p c.args.x.now c.args.y.now c.args.out.now o)
+    (passed_on _ _ c.from_residual.ensures.1 ∙ sym o, left_by p c.args.x.now c.args.y.now c.args.out.now o)

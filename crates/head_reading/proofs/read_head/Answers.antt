@@ -1,6 +1,8 @@
 -- `read_head` meets its contract: the checks of the head, then those of the parameters.
 use mathlib.Core.Path.{◌≡◌, sym, ◌∙◌, ap}
 use borrow.Author.Rules.{rules}
+use Rattle.refusals.proofs.Errors.{err_is}
+use Rattle.parameters.specs.Sets.{made}
 use Rattle.refusals.specs.Outcomes.{outcome, Passes}
 use Rattle.refusals.specs.Numbers.{answered}
 use Rattle.refusals.proofs.Checks.{passed_all, refused_first}
@@ -29,4 +31,4 @@ pub returns-in_err-head_refusal : goal.returns-in_err-head_refusal
 unfolding reading_head parameters
 returns-in_err-head_refusal c =
     let refusal_is : answered c.head_refusal.result ≡ outcome (head_checks c.args.kind c.args.file.now) (tt {0}) = c.head_refusal.ensures in
-    sym (refused_first (head_checks c.args.kind c.args.file.now) (parameter_checks (head_of c.args.file.now)) (head_of c.args.file.now) _ (sym refusal_is ∙ ap answered c.in_err-head_refusal.was))
+    ap made (err_is _ _ c.from_residual.ensures.1) ∙ sym (refused_first (head_checks c.args.kind c.args.file.now) (parameter_checks (head_of c.args.file.now)) (head_of c.args.file.now) _ (sym refusal_is ∙ ap answered c.in_err-head_refusal.was))

@@ -6,11 +6,12 @@ use Prim.Native.Nat.{◌*◌}
 use borrow.Author.Rules.{rules}
 use lib.Dec.{T}
 use lib.ListN.{length}
+use Rattle.refusals.proofs.Errors.{passed_on}
 use Rattle.integers.proofs.Tests.{are_equal_5}
 use Rattle.parameters.specs.Sets.{ParameterSet, set_of}
 use Rattle.arrays.specs.Arrays.{full}
 use Rattle.array_sets.specs.declared.ArraySet.TheVariants.{F, G, ReducedModulo2, ReducedModuloQ}
-use Rattle.array_sets.proofs.ArrayChecks.{own, and_lengths, and_array}
+use Rattle.array_sets.proofs.ArrayChecks.{own, and_lengths, and_array, stops, stops_before_7}
 use Rattle.key_check_refusals.proofs.key_array_refusal.Goals as goal
 use Rattle.key_check_refusals.proofs.key_array_refusal.Goals.{Start}
 
@@ -24,14 +25,54 @@ lengths s =
 asked : (s : Start) → T (lengths s) → (length s.args.f.now ≡ 2 * (P s).N) × (length s.args.f2.now ≡ 2 * (P s).N) × (length s.args.fq.now ≡ 2 * (P s).N) × (length s.args.g.now ≡ 2 * (P s).N) × (s.args.room ≡ 2 * (P s).N)
 asked s t = are_equal_5 _ _ _ _ _ _ _ _ _ _ t
 
+pub returns-in_err-check : goal.returns-in_err-check
+returns-in_err-check c =
+    let s = (goal.at.returns-in_err-check c).Start in
+    let p = P s in
+    let t = lengths s in
+    stops_before_7 p t (own p F c.args.f.now ∷ own p ReducedModulo2 c.args.f2.now ∷ own p ReducedModuloQ c.args.fq.now ∷ own p G c.args.g.now ∷ []) (passed_on _ _ c.from_residual.ensures.1) c.in_err-check.ensures
+
+pub returns-in_err-when : goal.returns-in_err-when
+returns-in_err-when c =
+    let s = (goal.at.returns-in_err-when c).Start in
+    let p = P s in
+    let t = lengths s in
+    stops p t [] (own p F c.args.f.now ∷ own p ReducedModulo2 c.args.f2.now ∷ own p ReducedModuloQ c.args.fq.now ∷ own p G c.args.g.now ∷ []) (passed_on _ _ c.from_residual-in_err-when.ensures.1) (and_lengths p t c.five_full.ensures c.in_ok-check.ensures c.in_err-when.ensures)
+
+pub returns-in_err-check_array : goal.returns-in_err-check_array
+returns-in_err-check_array c =
+    let s = (goal.at.returns-in_err-check_array c).Start in
+    let p = P s in
+    let t = lengths s in
+    let o_7 = and_lengths p t c.five_full.ensures c.in_ok-check.ensures c.in_ok-when.ensures in
+    stops p t (own p F c.args.f.now ∷ []) (own p ReducedModulo2 c.args.f2.now ∷ own p ReducedModuloQ c.args.fq.now ∷ own p G c.args.g.now ∷ []) (passed_on _ _ c.from_residual-in_err-check_array.ensures.1) (and_array p t F c.args.f.now (λ h. (asked s h).0) [] o_7 c.in_err-check_array.ensures)
+
+pub returns-in_err-check_array-2 : goal.returns-in_err-check_array-2
+returns-in_err-check_array-2 c =
+    let s = (goal.at.returns-in_err-check_array-2 c).Start in
+    let p = P s in
+    let t = lengths s in
+    let o_7 = and_lengths p t c.five_full.ensures c.in_ok-check.ensures c.in_ok-when.ensures in
+    let o_0 = and_array p t F c.args.f.now (λ h. (asked s h).0) [] o_7 c.in_ok-check_array.ensures in
+    stops p t (own p F c.args.f.now ∷ own p ReducedModulo2 c.args.f2.now ∷ []) (own p ReducedModuloQ c.args.fq.now ∷ own p G c.args.g.now ∷ []) (passed_on _ _ c.from_residual-in_err-check_array-2.ensures.1) (and_array p t ReducedModulo2 c.args.f2.now (λ h. (asked s h).1) (own p F c.args.f.now ∷ []) o_0 c.in_err-check_array-2.ensures)
+
+pub returns-in_err-check_array-3 : goal.returns-in_err-check_array-3
+returns-in_err-check_array-3 c =
+    let s = (goal.at.returns-in_err-check_array-3 c).Start in
+    let p = P s in
+    let t = lengths s in
+    let o_7 = and_lengths p t c.five_full.ensures c.in_ok-check.ensures c.in_ok-when.ensures in
+    let o_0 = and_array p t F c.args.f.now (λ h. (asked s h).0) [] o_7 c.in_ok-check_array.ensures in
+    let o_1 = and_array p t ReducedModulo2 c.args.f2.now (λ h. (asked s h).1) (own p F c.args.f.now ∷ []) o_0 c.in_ok-check_array-2.ensures in
+    stops p t (own p F c.args.f.now ∷ own p ReducedModulo2 c.args.f2.now ∷ own p ReducedModuloQ c.args.fq.now ∷ []) (own p G c.args.g.now ∷ []) (passed_on _ _ c.from_residual-in_err-check_array-3.ensures.1) (and_array p t ReducedModuloQ c.args.fq.now (λ h. (asked s h).2) (own p F c.args.f.now ∷ own p ReducedModulo2 c.args.f2.now ∷ []) o_1 c.in_err-check_array-3.ensures)
+
 pub returns : goal.returns
-returns c = let p = P (goal.at.returns c).Start in
-    let t = lengths (goal.at.returns c).Start in
-    let x8 = own p F c.args.f.now in
-    let x11 = own p ReducedModulo2 c.args.f2.now in
-    let x12 = own p ReducedModuloQ c.args.fq.now in
-    let o7 = c.and.ensures ∙ and_lengths p t c.five_full-lengths.ensures c.check.ensures c.when.ensures in
-    let o8 = c.and-2.ensures ∙ and_array p t F c.args.f.now (λ h. (asked (goal.at.returns c).Start h).0) [] o7 c.check_array.ensures in
-    let o11 = c.and-3.ensures ∙ and_array p t ReducedModulo2 c.args.f2.now (λ h. (asked (goal.at.returns c).Start h).1) (x8 ∷ []) o8 c.check_array-2.ensures in
-    let o12 = c.and-4.ensures ∙ and_array p t ReducedModuloQ c.args.fq.now (λ h. (asked (goal.at.returns c).Start h).2) (x8 ∷ x11 ∷ []) o11 c.check_array-3.ensures in
-    c.and-5.ensures ∙ and_array p t G c.args.g.now (λ h. (asked (goal.at.returns c).Start h).3) (x8 ∷ x11 ∷ x12 ∷ []) o12 c.check_array-4.ensures
+returns c =
+    let s = (goal.at.returns c).Start in
+    let p = P s in
+    let t = lengths s in
+    let o_7 = and_lengths p t c.five_full.ensures c.in_ok-check.ensures c.in_ok-when.ensures in
+    let o_0 = and_array p t F c.args.f.now (λ h. (asked s h).0) [] o_7 c.in_ok-check_array.ensures in
+    let o_1 = and_array p t ReducedModulo2 c.args.f2.now (λ h. (asked s h).1) (own p F c.args.f.now ∷ []) o_0 c.in_ok-check_array-2.ensures in
+    let o_2 = and_array p t ReducedModuloQ c.args.fq.now (λ h. (asked s h).2) (own p F c.args.f.now ∷ own p ReducedModulo2 c.args.f2.now ∷ []) o_1 c.in_ok-check_array-3.ensures in
+    and_array p t G c.args.g.now (λ h. (asked s h).3) (own p F c.args.f.now ∷ own p ReducedModulo2 c.args.f2.now ∷ own p ReducedModuloQ c.args.fq.now ∷ []) o_2 c.check_array-4.ensures

@@ -4,6 +4,7 @@ use mathlib.Core.List.{List}
 use borrow.Author.Rules.{rules}
 use lib.IntN.{ℤ}
 use lib.ListN.{length}
+use Rattle.refusals.proofs.Errors.{gives_passed_on}
 use Rattle.refusals.specs.Outcomes.{Check, Passes}
 use Rattle.refusals.specs.Numbers.{answered}
 use Rattle.refusals.proofs.Checks.{gives_done, gives_refused}
@@ -23,16 +24,16 @@ value_of s = array s.args.n (packed s.args.message.now)
 pub pack_into-requires : goal.pack_into-requires
 unfolding packing
 pack_into-requires c =
-    let all_passed : Passes (checks (goal.at.pack_into-requires c).Start) = sym c.packing_refusal.ensures ∙ ap answered c.in_ok-packing_refusal.was in
+    let all_passed : Passes (checks (goal.at.pack_into-requires c).Start) = sym c.in_ok-packing_refusal.ensures in
     let k = packing_passed c.args.n c.args.message.now (length c.args.m.now) (all_passed) in
     (k.0, k.2)
 
 pub returns : goal.returns
 unfolding packing
 returns c =
-    let all_passed : Passes (checks (goal.at.returns c).Start) = sym c.packing_refusal.ensures ∙ ap answered c.in_ok-packing_refusal.was in
+    let all_passed : Passes (checks (goal.at.returns c).Start) = sym c.in_ok-packing_refusal.ensures in
     gives_done (checks (goal.at.returns c).Start) (value_of (goal.at.returns c).Start) c.args.m.now _ (all_passed) c.pack_into.ensures
 
 pub returns-in_err-packing_refusal : goal.returns-in_err-packing_refusal
 unfolding packing
-returns-in_err-packing_refusal c = gives_refused (checks (goal.at.returns-in_err-packing_refusal c).Start) (value_of (goal.at.returns-in_err-packing_refusal c).Start) c.args.m.now _ (sym c.packing_refusal.ensures ∙ ap answered c.in_err-packing_refusal.was)
+returns-in_err-packing_refusal c = gives_passed_on (checks (goal.at.returns-in_err-packing_refusal c).Start) (value_of (goal.at.returns-in_err-packing_refusal c).Start) c.args.m.now _ _ c.from_residual.ensures.1 (sym c.in_err-packing_refusal.ensures)

@@ -58,7 +58,7 @@ returns-in_err-open c =
     let new_is : new ≡ written (outcome_of (goal.at.returns-in_err-open c).Start) (take c.least-k.result c.args.message.now) = c.open.ensures.1 ∙ ap (λ (o : Outcome (List ℕ)). written o (take c.least-k.result c.args.message.now)) outcome-is in
     let k = c.least-k.result in
     let old = c.args.message.now in
-    let n = c.in_err-open.refusal in
+    let n = c.in_err-open.field-0.0 in
     let o = answer_refused (outcome_of (goal.at.returns-in_err-open c).Start) c.open.result n number_is c.in_err-open.was in
     let same : new ≡ take k old = new_is ∙ ap (λ (x : Outcome (List ℕ)). written x (take k old)) o in
     gives_as (sym o) (record { answer = refl; left = ap (λ (l : List ℕ). l ++ drop k old) same ∙ take-append-drop k old })

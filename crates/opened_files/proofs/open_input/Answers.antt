@@ -6,5 +6,5 @@ use Rattle.opened_arrays.proofs.Answers.{gives_refusal}
 use Rattle.opened_files.proofs.InputParts.{input_refused}
 use Rattle.opened_files.proofs.open_input.Goals as goal
 
-pub returns-in_err-read_head : goal.returns-in_err-read_head
-returns-in_err-read_head c = gives_refusal (sym (input_refused _ c.in_err-read_head.refusal (sym c.read_head.ensures ∙ ap made c.in_err-read_head.was)))
+pub returns-in_err-p : goal.returns-in_err-p
+returns-in_err-p c = gives_refusal (sym (input_refused _ c.in_err-p.field-0.0 (sym c.read_head.ensures ∙ ap made c.in_err-p.was)))

@@ -9,6 +9,7 @@ use lib.Dec.{T, eqb, ltb}
 use lib.IntN.{ℤ}
 use lib.ListN.{length}
 use Rattle.integers.proofs.Tests.{are_equal_4}
+use Rattle.refusals.proofs.Errors.{gives_passed_on}
 use Rattle.refusals.specs.Outcomes.{Check, outcome, ◌if◌, Passes}
 use Rattle.refusals.specs.Numbers.{answered}
 use Rattle.refusals.proofs.Checks.{refused_first, done_all, done_passed, done_holds, gives_refused, gives_same}
@@ -64,11 +65,11 @@ asked s h =
     (p.0, ltb-false (given s) (2 * s.args.count) there.0, c7.0, c12.0)
 
 pub seal_spread-requires : goal.seal_spread-requires
-seal_spread-requires c = let a = asked (goal.at.seal_spread-requires c).Start (sym c.refusal_before_places.ensures ∙ ap answered c.in_ok-refusal_before_places.was) in
+seal_spread-requires c = let a = asked (goal.at.seal_spread-requires c).Start (sym c.in_ok-refusal_before_places.ensures) in
     let e = are_equal_4 (length c.args.message.now) (message_bytes (P (goal.at.seal_spread-requires c).Start).N) c.args.count (P (goal.at.seal_spread-requires c).Start).s (length c.args.h.now) (2 * (P (goal.at.seal_spread-requires c).Start).N) (length c.args.e.now) (2 * (P (goal.at.seal_spread-requires c).Start).N) a.2 in
     record { passes = (a.0, a.3); message_len = (e.0, e.1, e.2, e.3, a.1) }
 
 pub returns-in_err-refusal_before_places : goal.returns-in_err-refusal_before_places
 returns-in_err-refusal_before_places c = gives_same c.args.e.now (by_count (goal.at.returns-in_err-refusal_before_places c).Start)
-    (gives_refused ((parameter_checks (P (goal.at.returns-in_err-refusal_before_places c).Start) ++ before (goal.at.returns-in_err-refusal_before_places c).Start c.args.count) ++ after (goal.at.returns-in_err-refusal_before_places c).Start) (value_of (goal.at.returns-in_err-refusal_before_places c).Start) c.args.e.now _
-    (refused_first (parameter_checks (P (goal.at.returns-in_err-refusal_before_places c).Start) ++ before (goal.at.returns-in_err-refusal_before_places c).Start c.args.count) (after (goal.at.returns-in_err-refusal_before_places c).Start) (tt {0}) _ (sym c.refusal_before_places.ensures ∙ ap answered c.in_err-refusal_before_places.was)))
+    (gives_passed_on ((parameter_checks (P (goal.at.returns-in_err-refusal_before_places c).Start) ++ before (goal.at.returns-in_err-refusal_before_places c).Start c.args.count) ++ after (goal.at.returns-in_err-refusal_before_places c).Start) (value_of (goal.at.returns-in_err-refusal_before_places c).Start) c.args.e.now _ _ c.from_residual.ensures.1
+    (refused_first (parameter_checks (P (goal.at.returns-in_err-refusal_before_places c).Start) ++ before (goal.at.returns-in_err-refusal_before_places c).Start c.args.count) (after (goal.at.returns-in_err-refusal_before_places c).Start) (tt {0}) _ (sym c.in_err-refusal_before_places.ensures)))

@@ -36,6 +36,6 @@ returns c =
 
 pub returns-in_err-check_key : goal.returns-in_err-check_key
 unfolding round_trip checked_sealing
-returns-in_err-check_key c = let d = answer_refused (checks (goal.at.returns-in_err-check_key c).Start) c.check_key.result c.in_err-check_key.refusal c.check_key.ensures.0 c.in_err-check_key.was in
+returns-in_err-check_key c = let d = answer_refused (checks (goal.at.returns-in_err-check_key c).Start) c.check_key.result c.in_err-check_key.field-0.0 c.check_key.ensures.0 c.in_err-check_key.was in
     let o = gives_same c.args.opened.now (ap (whole (goal.at.returns-in_err-check_key c).Start) d) (refl, refl) in
     record { h_after = c.check_key.ensures.1; e_after = wrote_same c.args.e.now (ap (seals (goal.at.returns-in_err-check_key c).Start) d); gives = o; result_value = (λ l m. returns l c.args.opened.now m o) }

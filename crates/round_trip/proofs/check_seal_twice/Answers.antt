@@ -36,7 +36,7 @@ returns c =
 
 pub returns-in_err-check_key : goal.returns-in_err-check_key
 unfolding checked_sealing checked_sealing_twice
-returns-in_err-check_key c = let d = answer_refused (checks (goal.at.returns-in_err-check_key c).Start) c.check_key.result c.in_err-check_key.refusal c.check_key.ensures.0 c.in_err-check_key.was in
+returns-in_err-check_key c = let d = answer_refused (checks (goal.at.returns-in_err-check_key c).Start) c.check_key.result c.in_err-check_key.field-0.0 c.check_key.ensures.0 c.in_err-check_key.was in
     let w = wrote_same c.args.e1.now (ap (seals (goal.at.returns-in_err-check_key c).Start) d) in
     let o = gives_same c.args.e2.now (ap (whole (goal.at.returns-in_err-check_key c).Start) d) (refl, refl) in
     record { h_after = c.check_key.ensures.1; e1_after = w; gives = o; result_value = (λ l l'. sealings_differ l l' w o) }

@@ -30,5 +30,5 @@ returns c =
 
 pub returns-in_err-seal : goal.returns-in_err-seal
 unfolding sealing_twice
-returns-in_err-seal c = let d = answer_refused (seals (goal.at.returns-in_err-seal c).Start) c.seal.result c.in_err-seal.refusal c.seal.ensures.0 c.in_err-seal.was in
+returns-in_err-seal c = let d = answer_refused (seals (goal.at.returns-in_err-seal c).Start) c.seal.result c.in_err-seal.field-0.0 c.seal.ensures.0 c.in_err-seal.was in
     record { e1_after = c.seal.ensures.1; gives = gives_same c.args.e2.now (ap (both (goal.at.returns-in_err-seal c).Start) d) (refl, refl) }

@@ -4,6 +4,7 @@ use mathlib.Core.List.{List, ◌++◌}
 use borrow.Author.Rules.{rules}
 use lib.IntN.{ℤ}
 use lib.ListN.{length}
+use Rattle.refusals.proofs.Errors.{gives_passed_on}
 use Rattle.refusals.specs.Outcomes.{Check, Passes}
 use Rattle.refusals.specs.Numbers.{answered}
 use Rattle.refusals.proofs.Checks.{gives_done, gives_refused}
@@ -24,9 +25,9 @@ value_of s = array s.args.p.n (sealed (set_of s.args.p) (coefficient s.args.h.no
 pub returns : goal.returns
 unfolding sealing
 returns c =
-    let all_passed : Passes (checks (goal.at.returns c).Start) = sym c.sealing_refusal.ensures ∙ ap answered c.in_ok-sealing_refusal.was in
+    let all_passed : Passes (checks (goal.at.returns c).Start) = sym c.in_ok-sealing_refusal.ensures in
     gives_done (checks (goal.at.returns c).Start) (value_of (goal.at.returns c).Start) c.args.e.now _ all_passed c.seal_into.ensures
 
 pub returns-in_err-sealing_refusal : goal.returns-in_err-sealing_refusal
 unfolding sealing
-returns-in_err-sealing_refusal c = gives_refused (checks (goal.at.returns-in_err-sealing_refusal c).Start) (value_of (goal.at.returns-in_err-sealing_refusal c).Start) c.args.e.now _ (sym c.sealing_refusal.ensures ∙ ap answered c.in_err-sealing_refusal.was)
+returns-in_err-sealing_refusal c = gives_passed_on (checks (goal.at.returns-in_err-sealing_refusal c).Start) (value_of (goal.at.returns-in_err-sealing_refusal c).Start) c.args.e.now _ _ c.from_residual.ensures.1 (sym c.in_err-sealing_refusal.ensures)

@@ -47,6 +47,6 @@ returns c =
 pub returns-in_err-open : goal.returns-in_err-open
 returns-in_err-open c =
     let number_is : number (answered c.open.result) ≡ number (in_full (goal.at.returns-in_err-open c).Start) = c.open.ensures.0 ∙ ap number (room (goal.at.returns-in_err-open c).Start) in
-    let n = c.in_err-open.refusal in
+    let n = c.in_err-open.field-0.0 in
     let o = answer_refused (in_full (goal.at.returns-in_err-open c).Start) c.open.result n number_is c.in_err-open.was in
     gives_refusal (sym (lent (goal.at.returns-in_err-open c).Start ∙ (readings_agree (P (goal.at.returns-in_err-open c).Start) c.args.f.now c.args.f2.now c.args.e.now).refused_alike (number_of n) o))

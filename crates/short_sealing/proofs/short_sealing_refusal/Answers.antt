@@ -6,12 +6,13 @@ use Prim.Native.Nat.{◌*◌}
 use borrow.Author.Rules.{rules}
 use lib.Dec.{T}
 use lib.ListN.{length}
+use Rattle.refusals.proofs.Errors.{passed_on}
 use Rattle.integers.proofs.Tests.{are_equal_3}
 use Rattle.refusals.specs.Outcomes.{◌if◌, outcome}
 use Rattle.parameters.specs.Sets.{ParameterSet, set_of}
 use Rattle.arrays.specs.Arrays.{full}
 use Rattle.array_sets.specs.declared.ArraySet.TheVariants.{Phi, ReducedModuloQ}
-use Rattle.array_sets.proofs.ArrayChecks.{own, and_lengths, and_array, and_check}
+use Rattle.array_sets.proofs.ArrayChecks.{own, and_lengths, and_array, and_check, stops, stops_before_7}
 use Rattle.short_messages.specs.ShortMessages.{too_long}
 use Rattle.short_scheme.specs.Calls.{short_sealing_checks}
 use Rattle.short_sealing.proofs.short_sealing_refusal.Goals as goal
@@ -26,14 +27,48 @@ lengths s = full (P s).N (length s.args.h.now) && (full (P s).N (length s.args.p
 asked : (s : Start) → T (lengths s) → (length s.args.h.now ≡ 2 * (P s).N) × (length s.args.phi.now ≡ 2 * (P s).N) × (s.args.room ≡ 2 * (P s).N)
 asked s t = are_equal_3 _ _ _ _ _ _ t
 
+pub returns-in_err-check : goal.returns-in_err-check
+unfolding short_sealing_checks
+returns-in_err-check c =
+    let s = (goal.at.returns-in_err-check c).Start in
+    let p = P s in
+    let t = lengths s in
+    stops_before_7 p t (own p ReducedModuloQ c.args.h.now ∷ own p Phi c.args.phi.now ∷ 26 if too_long p.N c.args.message ∷ []) (passed_on _ _ c.from_residual.ensures.1) c.in_err-check.ensures
+
+pub returns-in_err-when : goal.returns-in_err-when
+unfolding short_sealing_checks
+returns-in_err-when c =
+    let s = (goal.at.returns-in_err-when c).Start in
+    let p = P s in
+    let t = lengths s in
+    stops p t [] (own p ReducedModuloQ c.args.h.now ∷ own p Phi c.args.phi.now ∷ 26 if too_long p.N c.args.message ∷ []) (passed_on _ _ c.from_residual-in_err-when.ensures.1) (and_lengths p t c.three_full.ensures c.in_ok-check.ensures c.in_err-when.ensures)
+
+pub returns-in_err-check_array : goal.returns-in_err-check_array
+unfolding short_sealing_checks
+returns-in_err-check_array c =
+    let s = (goal.at.returns-in_err-check_array c).Start in
+    let p = P s in
+    let t = lengths s in
+    let o_7 = and_lengths p t c.three_full.ensures c.in_ok-check.ensures c.in_ok-when.ensures in
+    stops p t (own p ReducedModuloQ c.args.h.now ∷ []) (own p Phi c.args.phi.now ∷ 26 if too_long p.N c.args.message ∷ []) (passed_on _ _ c.from_residual-in_err-check_array.ensures.1) (and_array p t ReducedModuloQ c.args.h.now (λ h. (asked s h).0) [] o_7 c.in_err-check_array.ensures)
+
+pub returns-in_err-check_array-2 : goal.returns-in_err-check_array-2
+unfolding short_sealing_checks
+returns-in_err-check_array-2 c =
+    let s = (goal.at.returns-in_err-check_array-2 c).Start in
+    let p = P s in
+    let t = lengths s in
+    let o_7 = and_lengths p t c.three_full.ensures c.in_ok-check.ensures c.in_ok-when.ensures in
+    let o_0 = and_array p t ReducedModuloQ c.args.h.now (λ h. (asked s h).0) [] o_7 c.in_ok-check_array.ensures in
+    stops p t (own p ReducedModuloQ c.args.h.now ∷ own p Phi c.args.phi.now ∷ []) (26 if too_long p.N c.args.message ∷ []) (passed_on _ _ c.from_residual-in_err-check_array-2.ensures.1) (and_array p t Phi c.args.phi.now (λ h. (asked s h).1) (own p ReducedModuloQ c.args.h.now ∷ []) o_0 c.in_err-check_array-2.ensures)
+
 pub returns : goal.returns
 unfolding short_sealing_checks
-returns c = let p = P (goal.at.returns c).Start in
-    let t = lengths (goal.at.returns c).Start in
-    let x12 = own p ReducedModuloQ c.args.h.now in
-    let x10 = own p Phi c.args.phi.now in
-    let o7 = c.and.ensures ∙ and_lengths p t c.three_full-lengths.ensures c.check.ensures c.when.ensures in
-    let o12 = c.and-2.ensures ∙ and_array p t ReducedModuloQ c.args.h.now (λ h. (asked (goal.at.returns c).Start h).0) [] o7 c.check_array.ensures in
-    let o10 = c.and-3.ensures ∙ and_array p t Phi c.args.phi.now (λ h. (asked (goal.at.returns c).Start h).1) (x12 ∷ []) o12 c.check_array-2.ensures in
-    c.and-4.ensures
-    ∙ and_check p t (26 if too_long (P (goal.at.returns c).Start).N c.args.message) (x12 ∷ x10 ∷ []) o10 (c.when-2.ensures ∙ ap (λ (b : Bool). outcome (26 if b ∷ []) (tt {0})) c.too_long-long.ensures)
+returns c =
+    let s = (goal.at.returns c).Start in
+    let p = P s in
+    let t = lengths s in
+    let o_7 = and_lengths p t c.three_full.ensures c.in_ok-check.ensures c.in_ok-when.ensures in
+    let o_0 = and_array p t ReducedModuloQ c.args.h.now (λ h. (asked s h).0) [] o_7 c.in_ok-check_array.ensures in
+    let o_1 = and_array p t Phi c.args.phi.now (λ h. (asked s h).1) (own p ReducedModuloQ c.args.h.now ∷ []) o_0 c.in_ok-check_array-2.ensures in
+    and_check p t (26 if too_long p.N c.args.message) (own p ReducedModuloQ c.args.h.now ∷ own p Phi c.args.phi.now ∷ []) o_1 (c.when-2.ensures ∙ ap (λ (b : Bool). outcome (26 if b ∷ []) (tt {0})) c.too_long.ensures)

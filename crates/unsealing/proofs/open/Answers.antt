@@ -4,6 +4,7 @@ use mathlib.Core.List.{List, ◌++◌}
 use Prim.Native.Nat.{ℕ}
 use borrow.Author.Rules.{rules}
 use lib.ListN.{length}
+use Rattle.refusals.proofs.Errors.{gives_passed_on}
 use Rattle.refusals.specs.Outcomes.{Check, Passes}
 use Rattle.refusals.specs.Numbers.{answered}
 use Rattle.refusals.proofs.Checks.{gives_done, gives_refused}
@@ -24,9 +25,9 @@ value_of s = unpacked s.args.p.n (opened (set_of s.args.p) (coefficient s.args.f
 pub returns : goal.returns
 unfolding opening
 returns c =
-    let all_passed : Passes (checks (goal.at.returns c).Start) = sym c.opening_refusal.ensures ∙ ap answered c.in_ok-opening_refusal.was in
+    let all_passed : Passes (checks (goal.at.returns c).Start) = sym c.in_ok-opening_refusal.ensures in
     gives_done (checks (goal.at.returns c).Start) (value_of (goal.at.returns c).Start) c.args.message.now _ all_passed c.open_into.ensures
 
 pub returns-in_err-opening_refusal : goal.returns-in_err-opening_refusal
 unfolding opening
-returns-in_err-opening_refusal c = gives_refused (checks (goal.at.returns-in_err-opening_refusal c).Start) (value_of (goal.at.returns-in_err-opening_refusal c).Start) c.args.message.now _ (sym c.opening_refusal.ensures ∙ ap answered c.in_err-opening_refusal.was)
+returns-in_err-opening_refusal c = gives_passed_on (checks (goal.at.returns-in_err-opening_refusal c).Start) (value_of (goal.at.returns-in_err-opening_refusal c).Start) c.args.message.now _ _ c.from_residual.ensures.1 (sym c.in_err-opening_refusal.ensures)

@@ -25,8 +25,5 @@ use Rattle.bundles.proofs.Counted.{Counted, counted, part_long, array_of_part, n
 use Rattle.bundle_checks.proofs.entry_arrays.arrays_refusal_in.Given as goal
 
 abbrev pub invariant-loop-k : goal.invariant-loop-k
-invariant-loop-k l = (l.k ≤ l.count) × (length l.x ≡ length l.initial.x) × (l.at ≡ entry_start (head_of l.file).N l.k)
+invariant-loop-k l = (length l.x ≡ length l.initial.x) × (l.at ≡ entry_start (head_of l.file).N l.k)
     × (outcome (arrays_checks (head_of l.file) (entries_of l.file)) (tt {0}) ≡ outcome (from_entry (head_of l.file) (entries_of l.file) l.k) (tt {0}))
-
-abbrev pub decreases-loop-k : goal.decreases-loop-k
-decreases-loop-k l = l.count - l.k

@@ -8,6 +8,7 @@ use borrow.Author.Rules.{rules}
 use lib.IntN.{ℤ}
 use lib.ListN.{length, drop, length-drop}
 use lib.Seq.{length-take-le}
+use Rattle.refusals.proofs.Errors.{passed_on}
 use Rattle.refusals.specs.Outcomes.{outcome}
 use Rattle.refusals.specs.Numbers.{answered}
 use Rattle.parameters.specs.Sets.{set_of}
@@ -35,13 +36,13 @@ full s k h =
 pub returns-in_err-array_refusal : goal.returns-in_err-array_refusal
 returns-in_err-array_refusal c =
     let checked : outcome (own (set_of c.args.p) ReducedModuloQ (array_of (entries (goal.at.returns-in_err-array_refusal c).Start) c.loop-k.k) ∷ []) (tt {0}) ≡ answered c.array_refusal.result = sym (own_check (set_of c.args.p) ReducedModuloQ (array_of (entries (goal.at.returns-in_err-array_refusal c).Start) c.loop-k.k) c.requires.0 (full (goal.at.returns-in_err-array_refusal c).Start c.loop-k.k c.loop-k-test.true)) ∙ sym c.array_refusal.ensures in
-    sym (c.loop-k.invariant.1 ∙ entry_refused (set_of c.args.p) (entries (goal.at.returns-in_err-array_refusal c).Start) c.loop-k.k _ (inside (goal.at.returns-in_err-array_refusal c).Start c.loop-k.k c.loop-k-test.true) (checked ∙ ap answered c.in_err-array_refusal.was))
+    passed_on _ _ c.from_residual.ensures.1 ∙ sym (c.loop-k.invariant ∙ entry_refused (set_of c.args.p) (entries (goal.at.returns-in_err-array_refusal c).Start) c.loop-k.k _ (inside (goal.at.returns-in_err-array_refusal c).Start c.loop-k.k c.loop-k-test.true) (checked ∙ ap answered c.in_err-array_refusal.was))
 
 pub loop-k-preserved : goal.loop-k-preserved
 loop-k-preserved c =
     let checked : outcome (own (set_of c.args.p) ReducedModuloQ (array_of (entries (goal.at.loop-k-preserved c).Start) c.loop-k.k) ∷ []) (tt {0}) ≡ answered c.array_refusal.result = sym (own_check (set_of c.args.p) ReducedModuloQ (array_of (entries (goal.at.loop-k-preserved c).Start) c.loop-k.k) c.requires.0 (full (goal.at.loop-k-preserved c).Start c.loop-k.k c.loop-k-test.true)) ∙ sym c.array_refusal.ensures in
     let h = c.loop-k-test.true in
-    (omega (arith, h), c.loop-k.invariant.1 ∙ entry_passed (set_of c.args.p) (entries (goal.at.loop-k-preserved c).Start) c.loop-k.k (inside (goal.at.loop-k-preserved c).Start c.loop-k.k h) (checked ∙ ap answered c.in_ok-array_refusal.was))
+    c.loop-k.invariant ∙ entry_passed (set_of c.args.p) (entries (goal.at.loop-k-preserved c).Start) c.loop-k.k (inside (goal.at.loop-k-preserved c).Start c.loop-k.k h) (checked ∙ ap answered c.in_ok-array_refusal.was)
 
 pub returns : goal.returns
-returns c = sym (c.loop-k.invariant.1 ∙ all_entries_passed (set_of c.args.p) (entries (goal.at.returns c).Start) c.loop-k.k (omega (arith, c.loop-k.invariant.0, c.loop-k-test.false, given_count c.args.p.n c.args.stops.now c.args.numbers.now)))
+returns c = sym (c.loop-k.invariant ∙ all_entries_passed (set_of c.args.p) (entries (goal.at.returns c).Start) c.loop-k.k (omega (arith, given_count c.args.p.n c.args.stops.now c.args.numbers.now)))

@@ -20,7 +20,4 @@ use Rattle.bundles.proofs.GivenEntries.{given_count, given_array}
 use Rattle.bundle_writing.proofs.entries.arrays_refusal.Given as goal
 
 abbrev pub invariant-loop-k : goal.invariant-loop-k
-invariant-loop-k l = (l.k ≤ length l.stops) × (outcome (arrays_checks (set_of l.p) (entries_given l.p.n l.stops l.numbers)) (tt {0}) ≡ outcome (from_entry (set_of l.p) (entries_given l.p.n l.stops l.numbers) l.k) (tt {0}))
-
-abbrev pub decreases-loop-k : goal.decreases-loop-k
-decreases-loop-k l = length l.stops - l.k
+invariant-loop-k l = outcome (arrays_checks (set_of l.p) (entries_given l.p.n l.stops l.numbers)) (tt {0}) ≡ outcome (from_entry (set_of l.p) (entries_given l.p.n l.stops l.numbers) l.k) (tt {0})

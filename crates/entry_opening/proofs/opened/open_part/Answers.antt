@@ -6,6 +6,7 @@ use native.Mathlib.Omega.{arith}
 use borrow.Author.Rules.{rules}
 use lib.IntN.{ℤ}
 use lib.ListN.{length}
+use Rattle.refusals.proofs.Errors.{gives_passed_on}
 use Rattle.refusals.specs.Outcomes.{Check, Outcome, Passes}
 use Rattle.refusals.specs.Numbers.{answered}
 use Rattle.refusals.proofs.Checks.{gives_done, gives_refused, gives_same}
@@ -30,7 +31,7 @@ returns c =
     let value_of : List ℕ = unpacked c.args.p.n (opened (set_of c.args.p) (coefficient c.args.f.now) (coefficient c.args.f2.now) (coefficient array_read)) in
     let is_read : array_read ≡ numbers_from c.args.part.now = numbers_read c.args.part.now c.args.x.now c.read_numbers.ensures (omega (arith, c.requires.0, c.requires.1)) in
     let of_part : opening_of (goal.at.returns c).Start (numbers_from c.args.part.now) ≡ opening_of (goal.at.returns c).Start array_read = ap (opening_of (goal.at.returns c).Start) (sym is_read) in
-    let all_passed : Passes checks = sym c.opening_refusal.ensures ∙ ap answered c.in_ok-opening_refusal.was in
+    let all_passed : Passes checks = sym c.in_ok-opening_refusal.ensures in
     let message = c.args.message.now in
     gives_same message of_part (gives_done checks value_of message _ all_passed c.open_over.ensures)
 
@@ -43,4 +44,4 @@ returns-in_err-opening_refusal c =
     let is_read : array_read ≡ numbers_from c.args.part.now = numbers_read c.args.part.now c.args.x.now c.read_numbers.ensures (omega (arith, c.requires.0, c.requires.1)) in
     let of_part : opening_of (goal.at.returns-in_err-opening_refusal c).Start (numbers_from c.args.part.now) ≡ opening_of (goal.at.returns-in_err-opening_refusal c).Start array_read = ap (opening_of (goal.at.returns-in_err-opening_refusal c).Start) (sym is_read) in
     let message = c.args.message.now in
-    gives_same message of_part (gives_refused checks value_of message _ (sym c.opening_refusal.ensures ∙ ap answered c.in_err-opening_refusal.was))
+    gives_same message of_part (gives_passed_on checks value_of message _ _ c.from_residual.ensures.1 (sym c.in_err-opening_refusal.ensures))

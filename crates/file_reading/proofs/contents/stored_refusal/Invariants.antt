@@ -20,7 +20,4 @@ use Rattle.files.proofs.SetChecks.{first-array, set_at, from_array, array_passed
 use Rattle.file_reading.proofs.contents.stored_refusal.Given as goal
 
 abbrev pub invariant-loop-k : goal.invariant-loop-k
-invariant-loop-k l = (l.k ≤ l.count) × (length l.x ≡ length l.initial.x) × (outcome (set_checks (set_of l.p) (arrays_of l.kind) (numbers_from l.bytes)) (tt {0}) ≡ outcome (from_array (set_of l.p) (arrays_of l.kind) (numbers_from l.bytes) l.k) (tt {0}))
-
-abbrev pub decreases-loop-k : goal.decreases-loop-k
-decreases-loop-k l = l.count - l.k
+invariant-loop-k l = (length l.x ≡ length l.initial.x) × (outcome (set_checks (set_of l.p) (arrays_of l.kind) (numbers_from l.bytes)) (tt {0}) ≡ outcome (from_array (set_of l.p) (arrays_of l.kind) (numbers_from l.bytes) l.k) (tt {0}))

@@ -5,6 +5,8 @@ use Prim.Native.Nat.{◌+◌, ◌-◌, ◌*◌}
 use native.Mathlib.Omega.{arith}
 use borrow.Author.Rules.{rules}
 use lib.ListN.{length, take, drop, length-drop}
+use Rattle.refusals.proofs.Errors.{passed_on}
+use Rattle.refusals.specs.Outcomes.{number}
 use Rattle.refusals.specs.Outcomes.{Check, outcome, Passes}
 use Rattle.refusals.specs.Numbers.{answered}
 use Rattle.refusals.proofs.Checks.{done_with, refused_with, gives_same}
@@ -50,4 +52,4 @@ returns c =
 pub returns-in_err-reading_refusal : goal.returns-in_err-reading_refusal
 returns-in_err-reading_refusal c =
     let refusal_is : answered c.reading_refusal.result ≡ outcome (checks (goal.at.returns-in_err-reading_refusal c).Start) (tt {0}) = c.reading_refusal.ensures in
-    gives_same c.args.numbers.now (refused_with (checks (goal.at.returns-in_err-reading_refusal c).Start) (numbers_of c.args.file.now) _ (sym refusal_is ∙ ap answered c.in_err-reading_refusal.was)) (refl, refl)
+    gives_same c.args.numbers.now (refused_with (checks (goal.at.returns-in_err-reading_refusal c).Start) (numbers_of c.args.file.now) _ (sym refusal_is ∙ ap answered c.in_err-reading_refusal.was)) (ap number (passed_on _ _ c.from_residual.ensures.1), refl)

@@ -19,7 +19,4 @@ use Rattle.files.proofs.SetChecks.{first-array, set_at, from_array, array_passed
 use Rattle.file_writing.proofs.contents.sets_refusal.Given as goal
 
 abbrev pub invariant-loop-k : goal.invariant-loop-k
-invariant-loop-k l = (l.k ≤ l.count) × (outcome (set_checks (set_of l.p) (arrays_of l.kind) l.numbers) (tt {0}) ≡ outcome (from_array (set_of l.p) (arrays_of l.kind) l.numbers l.k) (tt {0}))
-
-abbrev pub decreases-loop-k : goal.decreases-loop-k
-decreases-loop-k l = l.count - l.k
+invariant-loop-k l = outcome (set_checks (set_of l.p) (arrays_of l.kind) l.numbers) (tt {0}) ≡ outcome (from_array (set_of l.p) (arrays_of l.kind) l.numbers l.k) (tt {0})

@@ -5,6 +5,8 @@ use Prim.Native.Nat.{ℕ}
 use native.Mathlib.Omega.{arith}
 use borrow.Author.Rules.{rules}
 use lib.ListN.{length}
+use Rattle.refusals.proofs.Errors.{passed_on}
+use Rattle.refusals.specs.Outcomes.{number}
 use Rattle.refusals.specs.Outcomes.{Check, outcome, Passes}
 use Rattle.refusals.specs.Numbers.{answered}
 use Rattle.refusals.proofs.Checks.{done_with, refused_with, gives_same}
@@ -38,4 +40,4 @@ returns c =
 pub returns-in_err-writing_refusal : goal.returns-in_err-writing_refusal
 returns-in_err-writing_refusal c =
     let refusal_is : answered c.writing_refusal.result ≡ outcome (checks (goal.at.returns-in_err-writing_refusal c).Start) (tt {0}) = c.writing_refusal.ensures in
-    gives_same c.args.file.now (refused_with (checks (goal.at.returns-in_err-writing_refusal c).Start) (value_of (goal.at.returns-in_err-writing_refusal c).Start) _ (sym refusal_is ∙ ap answered c.in_err-writing_refusal.was)) (refl, refl)
+    gives_same c.args.file.now (refused_with (checks (goal.at.returns-in_err-writing_refusal c).Start) (value_of (goal.at.returns-in_err-writing_refusal c).Start) _ (sym refusal_is ∙ ap answered c.in_err-writing_refusal.was)) (ap number (passed_on _ _ c.from_residual.ensures.1), refl)

@@ -5,6 +5,7 @@ use mathlib.Core.List.{List, [], ◌∷◌, ◌++◌}
 use borrow.Author.Rules.{rules}
 use borrow.Author.Tests.{lt-ltb, le-ltb}
 use lib.Dec.{ltb}
+use Rattle.refusals.proofs.Errors.{passed_on}
 use Rattle.refusals.specs.Outcomes.{Check, ◌if◌, outcome}
 use Rattle.refusals.specs.Numbers.{answered}
 use Rattle.refusals.proofs.Checks.{refused_by, passed, none_left, call_passed, call_refused, passed_all, refused_first}
@@ -36,12 +37,12 @@ returns-then-room-lt-HEAD_BYTES c =
     let after_parameters : outcome (19 if not (known_kind c.args.kind) ∷ from_parameters (goal.at.returns-then-room-lt-HEAD_BYTES c).Start) (tt {0}) ≡ outcome (room (goal.at.returns-then-room-lt-HEAD_BYTES c).Start) (tt {0}) = after_19 ∙ passed_all (parameter_checks (P (goal.at.returns-then-room-lt-HEAD_BYTES c).Start)) (room (goal.at.returns-then-room-lt-HEAD_BYTES c).Start) tt (sym check_is ∙ ap answered c.in_ok-check.was) in
     sym (after_parameters ∙ refused_by 7 [] tt (lt-ltb _ head_length c.if-room-lt-HEAD_BYTES.true))
 
-pub returns-else-room-lt-HEAD_BYTES : goal.returns-else-room-lt-HEAD_BYTES
+pub returns : goal.returns
 unfolding head_writing_checks
-returns-else-room-lt-HEAD_BYTES c =
-    let check_is : answered c.check.result ≡ outcome (parameter_checks (P (goal.at.returns-else-room-lt-HEAD_BYTES c).Start)) (tt {0}) = c.check.ensures in
-    let after_19 : outcome (19 if not (known_kind c.args.kind) ∷ from_parameters (goal.at.returns-else-room-lt-HEAD_BYTES c).Start) (tt {0}) ≡ outcome (from_parameters (goal.at.returns-else-room-lt-HEAD_BYTES c).Start) (tt {0}) = call_passed 19 (from_parameters (goal.at.returns-else-room-lt-HEAD_BYTES c).Start) tt c.known_kind.ensures (ap not c.if-not-known_kind.false) in
-    let after_parameters : outcome (19 if not (known_kind c.args.kind) ∷ from_parameters (goal.at.returns-else-room-lt-HEAD_BYTES c).Start) (tt {0}) ≡ outcome (room (goal.at.returns-else-room-lt-HEAD_BYTES c).Start) (tt {0}) = after_19 ∙ passed_all (parameter_checks (P (goal.at.returns-else-room-lt-HEAD_BYTES c).Start)) (room (goal.at.returns-else-room-lt-HEAD_BYTES c).Start) tt (sym check_is ∙ ap answered c.in_ok-check.was) in
+returns c =
+    let check_is : answered c.check.result ≡ outcome (parameter_checks (P (goal.at.returns c).Start)) (tt {0}) = c.check.ensures in
+    let after_19 : outcome (19 if not (known_kind c.args.kind) ∷ from_parameters (goal.at.returns c).Start) (tt {0}) ≡ outcome (from_parameters (goal.at.returns c).Start) (tt {0}) = call_passed 19 (from_parameters (goal.at.returns c).Start) tt c.known_kind.ensures (ap not c.if-not-known_kind.false) in
+    let after_parameters : outcome (19 if not (known_kind c.args.kind) ∷ from_parameters (goal.at.returns c).Start) (tt {0}) ≡ outcome (room (goal.at.returns c).Start) (tt {0}) = after_19 ∙ passed_all (parameter_checks (P (goal.at.returns c).Start)) (room (goal.at.returns c).Start) tt (sym check_is ∙ ap answered c.in_ok-check.was) in
     sym (after_parameters ∙ passed 7 [] tt (le-ltb _ head_length c.if-room-lt-HEAD_BYTES.false) ∙ none_left tt)
 
 pub returns-in_err-check : goal.returns-in_err-check
@@ -49,4 +50,4 @@ unfolding head_writing_checks
 returns-in_err-check c =
     let check_is : answered c.check.result ≡ outcome (parameter_checks (P (goal.at.returns-in_err-check c).Start)) (tt {0}) = c.check.ensures in
     let after_19 : outcome (19 if not (known_kind c.args.kind) ∷ from_parameters (goal.at.returns-in_err-check c).Start) (tt {0}) ≡ outcome (from_parameters (goal.at.returns-in_err-check c).Start) (tt {0}) = call_passed 19 (from_parameters (goal.at.returns-in_err-check c).Start) tt c.known_kind.ensures (ap not c.if-not-known_kind.false) in
-    sym (after_19 ∙ refused_first (parameter_checks (P (goal.at.returns-in_err-check c).Start)) (room (goal.at.returns-in_err-check c).Start) tt _ (sym check_is ∙ ap answered c.in_err-check.was))
+    passed_on _ _ c.from_residual.ensures.1 ∙ sym (after_19 ∙ refused_first (parameter_checks (P (goal.at.returns-in_err-check c).Start)) (room (goal.at.returns-in_err-check c).Start) tt _ (sym check_is ∙ ap answered c.in_err-check.was))

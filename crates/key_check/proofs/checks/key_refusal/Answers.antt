@@ -2,6 +2,7 @@
 use mathlib.Core.Path.{◌≡◌, sym, ◌∙◌, ap}
 use mathlib.Core.List.{List, ◌++◌}
 use borrow.Author.Rules.{rules}
+use Rattle.refusals.proofs.Errors.{passed_on}
 use Rattle.refusals.specs.Outcomes.{Check, outcome, Passes}
 use Rattle.refusals.specs.Numbers.{answered}
 use Rattle.refusals.proofs.Checks.{passed_all, refused_first}
@@ -25,7 +26,7 @@ apart s = key_checks_apart (P s) s.args.f.now s.args.f2.now s.args.fq.now s.args
 
 pub inverse_refusal-requires : goal.inverse_refusal-requires
 inverse_refusal-requires c =
-    let first_passed : Passes (first (goal.at.inverse_refusal-requires c).Start) = sym c.key_array_refusal.ensures ∙ ap answered c.in_ok-key_array_refusal.was in
+    let first_passed : Passes (first (goal.at.inverse_refusal-requires c).Start) = sym c.in_ok-key_array_refusal.ensures in
     let k = key_arrays_passed (P (goal.at.inverse_refusal-requires c).Start) c.args.f.now c.args.f2.now c.args.fq.now c.args.g.now c.args.room first_passed in
     record {
       accepted = k.passes;
@@ -39,8 +40,8 @@ inverse_refusal-requires c =
 
 pub returns : goal.returns
 returns c =
-    let first_passed : Passes (first (goal.at.returns c).Start) = sym c.key_array_refusal.ensures ∙ ap answered c.in_ok-key_array_refusal.was in
+    let first_passed : Passes (first (goal.at.returns c).Start) = sym c.in_ok-key_array_refusal.ensures in
     c.inverse_refusal.ensures ∙ sym (passed_all (first (goal.at.returns c).Start) (last (goal.at.returns c).Start) tt first_passed) ∙ apart (goal.at.returns c).Start
 
 pub returns-in_err-key_array_refusal : goal.returns-in_err-key_array_refusal
-returns-in_err-key_array_refusal c = sym (refused_first (first (goal.at.returns-in_err-key_array_refusal c).Start) (last (goal.at.returns-in_err-key_array_refusal c).Start) tt _ (sym c.key_array_refusal.ensures ∙ ap answered c.in_err-key_array_refusal.was)) ∙ apart (goal.at.returns-in_err-key_array_refusal c).Start
+returns-in_err-key_array_refusal c = passed_on _ _ c.from_residual.ensures.1 ∙ sym (refused_first (first (goal.at.returns-in_err-key_array_refusal c).Start) (last (goal.at.returns-in_err-key_array_refusal c).Start) tt _ (sym c.in_err-key_array_refusal.ensures)) ∙ apart (goal.at.returns-in_err-key_array_refusal c).Start

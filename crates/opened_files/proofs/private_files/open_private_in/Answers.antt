@@ -67,4 +67,4 @@ returns-in_err-read c =
     let front : List ℤ = take c.file_numbers-k.result c.args.numbers.now in
     let within : c.file_numbers-k.result ≤ length c.args.numbers.now = omega (arith, c.file_numbers-k.ensures, numbers_few 2 c.args.p.n (N_small 2 c.args.first.now (set_of c.args.p) c.requires.0)) in
     let room : length front ≡ file_numbers 2 c.args.p.n = length-take-le _ c.args.numbers.now within ∙ c.file_numbers-k.ensures in
-    gives_refusal (sym (pair_refused c.args.first.now _ c.in_err-read.refusal (file_refused 2 c.args.first.now (set_of c.args.p) c.requires.0 front _ c.read.ensures.0 room c.in_err-read.refusal c.in_err-read.was)))
+    gives_refusal (sym (pair_refused c.args.first.now _ c.in_err-read.field-0.0 (file_refused 2 c.args.first.now (set_of c.args.p) c.requires.0 front _ c.read.ensures.0 room c.in_err-read.field-0.0 c.in_err-read.was)))

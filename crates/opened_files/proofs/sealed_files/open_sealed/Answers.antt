@@ -20,7 +20,7 @@ use Rattle.opened_files.proofs.sealed_files.open_sealed.Goals as goal
 pub open_sealed_in-requires : goal.open_sealed_in-requires
 open_sealed_in-requires c =
     let key_read : KeyRead (set_of c.args.p) (take c.file_numbers-k.result c.args.numbers.now) = subst (λ (k : ℕ). KeyRead (set_of c.args.p) (take k c.args.numbers.now)) (sym c.file_numbers-k.ensures) c.requires.0 in
-    record { key_read = c.requires; key_value = key_answered (set_of c.args.p) (take c.file_numbers-k.result c.args.numbers.now) key_read c.key_refusal-key.result c.key_refusal-key.ensures ∙ ap (λ (n : ℕ). outcome (inverse_checks (set_of c.args.p) (take n c.args.numbers.now)) (tt {0})) c.file_numbers-k.ensures; file_value = sym c.read_head.ensures ∙ ap made c.in_ok-read_head.was }
+    record { key_read = c.requires; key_value = key_answered (set_of c.args.p) (take c.file_numbers-k.result c.args.numbers.now) key_read c.key_refusal-key.result c.key_refusal-key.ensures ∙ ap (λ (n : ℕ). outcome (inverse_checks (set_of c.args.p) (take n c.args.numbers.now)) (tt {0})) c.file_numbers-k.ensures; file_value = sym c.read_head.ensures ∙ ap made c.in_ok-sealed.was }
 
-pub returns-in_err-read_head : goal.returns-in_err-read_head
-returns-in_err-read_head c = gives_refusal (sym (refused_first (file_checks 3 c.args.file.now) _ _ _ (head_refused 3 _ c.in_err-read_head.refusal (sym c.read_head.ensures ∙ ap made c.in_err-read_head.was))))
+pub returns-in_err-sealed : goal.returns-in_err-sealed
+returns-in_err-sealed c = gives_refusal (sym (refused_first (file_checks 3 c.args.file.now) _ _ _ (head_refused 3 _ c.in_err-sealed.field-0.0 (sym c.read_head.ensures ∙ ap made c.in_err-sealed.was))))

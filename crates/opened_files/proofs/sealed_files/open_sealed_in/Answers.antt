@@ -82,4 +82,4 @@ returns-in_err-read_sealed c =
     let few : c.args.p.n ≤ 1024 = (accepted_parameters P c.requires.key_read.0.accepted).N_small in
     let few_sealed : c.args.sealed.n ≤ 1024 = N_small 3 c.args.file.now (set_of c.args.sealed) c.requires.file_value in
     let room : length part ≡ file_numbers 3 c.args.sealed.n = length-take-le count (drop from c.args.numbers.now) (omega (arith, few, few_sealed, length-drop from c.args.numbers.now)) ∙ omega arith in
-    gives_refusal (sym (refused_first (file_checks 3 c.args.file.now) _ _ _ (file_refused 3 c.args.file.now (set_of c.args.sealed) c.requires.file_value part _ c.read_sealed.ensures.1.0 room c.in_err-read_sealed.refusal c.in_err-read_sealed.was)))
+    gives_refusal (sym (refused_first (file_checks 3 c.args.file.now) _ _ _ (file_refused 3 c.args.file.now (set_of c.args.sealed) c.requires.file_value part _ c.read_sealed.ensures.1.0 room c.in_err-read_sealed.field-0.0 c.in_err-read_sealed.was)))

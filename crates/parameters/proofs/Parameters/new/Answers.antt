@@ -1,5 +1,6 @@
 -- `Parameters::new` meets its contract.
 use Rattle.std.specs.Prelude.{Result}
+use Rattle.refusals.proofs.Errors.{err_is}
 use Rattle.refusals.specs.declared.Refusal.{Refusal}
 use mathlib.Core.Path.{◌≡◌, sym, ◌∙◌, ap, ap₂}
 use borrow.Author.Rules.{rules}
@@ -8,7 +9,7 @@ use mir.Facts.{to_z-of_z}
 use Rattle.refusals.specs.Outcomes.{done, outcome}
 use Rattle.refusals.specs.Numbers.{answered}
 use Rattle.refusals.proofs.Checks.{carried, carried_done, carried_refused, outcome_carried}
-use Rattle.parameters.specs.Sets.{ParameterSet, set, parameter_checks, parameters}
+use Rattle.parameters.specs.Sets.{ParameterSet, set, parameter_checks, parameters, made}
 use Rattle.parameters.proofs.Parameters.new.Goals as goal
 use Rattle.parameters.proofs.Parameters.new.Goals.{After-check_numbers, Start}
 
@@ -24,10 +25,12 @@ from_check c =
     ∙ ap (carried (λ _. P s)) (sym (c.check_numbers.ensures ∙ ap₂ (λ (u v : ℤ). outcome (parameter_checks (set s.args.n u v s.args.s s.args.t)) tt) (to_z-of_z s.ranges.c) (to_z-of_z s.ranges.d)))
 
 pub returns : goal.returns
-returns c = let s = c.before.before in
+returns c = let r = (goal.at.returns c).After-check_numbers in
+    let s = r.before in
     ap₂ (λ (u v : ℤ). done (set s.args.n u v s.args.s s.args.t)) (to_z-of_z s.ranges.c) (to_z-of_z s.ranges.d)
-    ∙ sym (from_check c.before ∙ ap (λ (a : Result (Unit {0}) Refusal). carried (λ _. P s) (answered a)) c.in_ok-check_numbers.was ∙ carried_done (λ _. P s) tt)
+    ∙ sym (from_check r ∙ ap (λ (a : Result (Unit {0}) Refusal). carried (λ _. P s) (answered a)) c.in_ok-check_numbers.was ∙ carried_done (λ _. P s) tt)
 
 pub returns-in_err-check_numbers : goal.returns-in_err-check_numbers
-returns-in_err-check_numbers c = let s = c.before.before in
-    sym (from_check c.before ∙ ap (λ (a : Result (Unit {0}) Refusal). carried (λ _. P s) (answered a)) c.in_err-check_numbers.was ∙ carried_refused (λ _. P s) _)
+returns-in_err-check_numbers c = let r = (goal.at.returns-in_err-check_numbers c).After-check_numbers in
+    ap made (err_is _ _ c.from_residual.ensures.1)
+    ∙ sym (from_check r ∙ ap (λ (a : Result (Unit {0}) Refusal). carried (λ _. P r.before) (answered a)) c.in_err-check_numbers.was ∙ carried_refused (λ _. P r.before) _)

@@ -71,7 +71,7 @@ returns c =
 pub returns-in_err-spread_numbers : goal.returns-in_err-spread_numbers
 returns-in_err-spread_numbers c =
     let spread_list : Gives (spreading (set_of c.args.p) (places (goal.at.returns-in_err-spread_numbers c).Start) (length c.args.phi.now)) (number (answered c.spread_numbers.result)) c.args.phi.now c.spread_numbers.new.phi = gives_same c.args.phi.now (sym (spreading_there (set_of c.args.p) c.args.numbers.now c.args.count c.requires.message_len.4 (length c.args.phi.now))) c.spread_numbers.ensures in
-    let refusal = c.in_err-spread_numbers.refusal in
+    let refusal = c.in_err-spread_numbers.field-0.0 in
     let refused-list = answer_refused _ c.spread_numbers.result refusal spread_list.0 c.in_err-spread_numbers.was in
     let records = records_length c.args.numbers.now 0 c.args.count ∙ c.requires.message_len.1 in
     gives_same c.args.e.now

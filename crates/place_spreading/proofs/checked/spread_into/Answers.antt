@@ -7,6 +7,7 @@ use native.Mathlib.Omega.{arith}
 use borrow.Author.Rules.{rules}
 use lib.IntN.{ℤ}
 use lib.ListN.{length, take}
+use Rattle.refusals.proofs.Errors.{gives_passed_on}
 use Rattle.refusals.specs.Outcomes.{Check, Passes}
 use Rattle.refusals.specs.Numbers.{answered}
 use Rattle.refusals.proofs.Checks.{done_passed, gives_done, gives_refused}
@@ -58,14 +59,14 @@ places_refusal-requires c =
 
 pub lay-requires : goal.lay-requires
 lay-requires c =
-    let all_passed : Passes (checks (goal.at.lay-requires c).Start) = sym c.places_refusal.ensures ∙ ap answered c.in_ok-places_refusal.was in
+    let all_passed : Passes (checks (goal.at.lay-requires c).Start) = sym c.in_ok-places_refusal.ensures in
     record { count_bound = ((small (goal.at.lay-requires c).Start).1, in_range_lem (goal.at.lay-requires c).Start all_passed); x_len = (c.clear.ensures.0 ∙ c.requires.2, c.clear.ensures.1) }
 
 pub returns : goal.returns
 returns c =
-    let all_passed : Passes (checks (goal.at.returns c).Start) = sym c.places_refusal.ensures ∙ ap answered c.in_ok-places_refusal.was in
+    let all_passed : Passes (checks (goal.at.returns c).Start) = sym c.in_ok-places_refusal.ensures in
     let passes = all_passed in
     gives_done (checks (goal.at.returns c).Start) (value_of (goal.at.returns c).Start) c.args.phi.now _ passes (c.lay.ensures.x_after (c.lay.ensures.value ∙ ap not (once (goal.at.returns c).Start passes)))
 
 pub returns-in_err-places_refusal : goal.returns-in_err-places_refusal
-returns-in_err-places_refusal c = gives_refused (checks (goal.at.returns-in_err-places_refusal c).Start) (value_of (goal.at.returns-in_err-places_refusal c).Start) c.args.phi.now _ (sym c.places_refusal.ensures ∙ ap answered c.in_err-places_refusal.was)
+returns-in_err-places_refusal c = gives_passed_on (checks (goal.at.returns-in_err-places_refusal c).Start) (value_of (goal.at.returns-in_err-places_refusal c).Start) c.args.phi.now _ _ c.from_residual.ensures.1 (sym c.in_err-places_refusal.ensures)
