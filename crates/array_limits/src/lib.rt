@@ -17,23 +17,15 @@ fn all_zero_or_unit(x: &[i32], n: usize) -> bool
     requires { (n ≤ 1024) × (length x.now ≡ 2 * n) }
     ensures { result ≡ zeros_and_units n (coefficient x.now) }
 {
-    if limits::numbers_within(x, 1) {
-        return limits::parts_together(x, n);
-    }
-    false
+    limits::numbers_within(x, 1) && limits::parts_together(x, n)
 }
 
 // Whether x is an array of N coefficients, N at most 1,024, that are zeros and units alone.
+#[tactic(auto, unfolding(arrays::specs::Arrays::units_array))]
 pub fn zeros_and_units(x: &[i32], n: u32) -> bool
     ensures { result ≡ units_array n x.now }
 {
-    if n > Parameters::MAX_N {
-        return false;
-    }
-    if x.len() != 2 * (n as usize) {
-        return false;
-    }
-    all_zero_or_unit(x, n as usize)
+    n <= Parameters::MAX_N && x.len() == 2 * (n as usize) && all_zero_or_unit(x, n as usize)
 }
 
 // Whether each number is at most 5,461 in size.

@@ -7,10 +7,7 @@ fn is_beyond(z: i32, limit: i32) -> bool
     requires { (pos 0 <ℤ limit) × (nat_abs limit ≤ 2 ^ 15) }
     ensures { result ≡ ltb (nat_abs limit) (nat_abs z) }
 {
-    if z < -limit {
-        return true;
-    }
-    limit < z
+    z < -limit || limit < z
 }
 
 // Whether each number is at most `limit` in size.
@@ -19,13 +16,10 @@ pub(crate) fn numbers_within(x: &[i32], limit: i32) -> bool
     ensures { result ≡ all_within (nat_abs limit) x.now }
 {
     let mut within = true;
-    let mut k = 0;
-    while k < x.len() {
-        let z = x[k];
-        if is_beyond(z, limit) {
+    for z in x {
+        if is_beyond(*z, limit) {
             within = false;
         }
-        k += 1;
     }
     within
 }
@@ -44,12 +38,10 @@ pub(crate) fn parts_together(x: &[i32], n: usize) -> bool
     ensures { result ≡ all n (λ i. not (ltb 1 (nat_abs ((coefficient x.now i).a -ℤ (coefficient x.now i).b)))) }
 {
     let mut together = true;
-    let mut i = 0;
-    while i < n {
+    for i in 0..n {
         if parts_apart_at(x, i) {
             together = false;
         }
-        i += 1;
     }
     together
 }

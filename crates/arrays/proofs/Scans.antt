@@ -1,10 +1,11 @@
 -- Loops over every index: `all` and `count` from the tests that were made, `sum` from the terms that were added.
 use mathlib.Core.Path.{◌≡◌, refl, sym, ◌∙◌, ap, ap₂}
-use mathlib.Core.Bool.{Bool, true, false, cond, ◌&&◌}
+use mathlib.Core.Bool.{Bool, true, false, not, cond, ◌&&◌, ◌||◌}
 use Prim.Native.Nat.{ℕ, zero, suc, ◌+◌, ◌≤◌, ◌<◌}
 use native.Mathlib.Omega.{arith}
 use native.Mathlib.Decide.{ℕ_discrete}
 use native.Mathlib.Numerals.{add-one}
+use Rattle.std.specs.List.{list_all, list_any, range_with_len}
 use Rattle.integers.proofs.Tests.{and_false}
 use Rattle.eisenstein.specs.Values.{𝟘, ◌+ω◌}
 use Rattle.polynomials.specs.Polynomials.{Polynomial, sum, all, count}
@@ -34,6 +35,44 @@ module _ (t : ℕ → Bool) where
 
   pub every_failed : (i : ℕ) → t i ≡ false → false ≡ all (i + 1) t
   every_failed i e = sym (all_fails (i + 1) i t (omega arith) e)
+
+-- ---- chains over a range
+
+-- the tests below a + n: those below a, and those from a on
+all_from : (t : ℕ → Bool) (a n : ℕ) → all (a + n) t ≡ (all a t && list_all t (range_with_len a n))
+unfolding all
+all_from t a zero = ap (λ (m : ℕ). all m t) {x = a + 0} {y = a} (omega arith) ∙ go (all a t)
+  where
+    go : (p : Bool) → p ≡ (p && true)
+    go true = refl
+    go false = refl
+all_from t a (suc n) =
+    ap (λ (m : ℕ). all m t) {x = a + suc n} {y = a + 1 + n} (omega arith)
+    ∙ all_from t (a + 1) n
+    ∙ ap (λ (m : ℕ). all m t && list_all t (range_with_len (a + 1) n)) (add-one a)
+    ∙ and_assoc (all a t) (t a) (list_all t (range_with_len (a + 1) n))
+  where
+    and_assoc : (p q r : Bool) → ((p && q) && r) ≡ (p && (q && r))
+    and_assoc true q r = refl
+    and_assoc false q r = refl
+
+pub all_of_range : (t : ℕ → Bool) (n : ℕ) → list_all t (range_with_len 0 n) ≡ all n t
+unfolding all
+all_of_range t n = sym (all_from t 0 n) ∙ ap (λ (m : ℕ). all m t) {x = 0 + n} {y = n} (omega arith)
+
+-- whether a test from a on fails, where those below a pass
+pub any_of_range : (p t : ℕ → Bool) (a n : ℕ) → all a t ≡ true → ((k : ℕ) → a ≤ k → t k ≡ not (p k)) → list_any p (range_with_len a n) ≡ not (all (a + n) t)
+any_of_range p t a n h e = go a n e ∙ ap not (sym (all_from t a n ∙ ap (λ (b : Bool). b && list_all t (range_with_len a n)) h))
+  where
+    either : (b c d : Bool) → d ≡ not c → (b || d) ≡ not (not b && c)
+    either true c d f = refl
+    either false c d f = f
+
+    go : (a n : ℕ) → ((k : ℕ) → a ≤ k → t k ≡ not (p k)) → list_any p (range_with_len a n) ≡ not (list_all t (range_with_len a n))
+    go a zero e = refl
+    go a (suc n) e =
+        either (p a) (list_all t (range_with_len (a + 1) n)) (list_any p (range_with_len (a + 1) n)) (go (a + 1) n (λ k l. e k (omega arith)))
+        ∙ ap (λ (b : Bool). not (b && list_all t (range_with_len (a + 1) n))) (sym (e a (omega arith)))
 
 -- a loop over the tests below n: the first i have passed
 pub record Scanned (t : ℕ → Bool) (n i : ℕ) : Type 0 where

@@ -27,36 +27,22 @@ pub fn few_zeros() -> [i32; 256]
 pub fn at(x: &[i32], k: usize) -> i64
     ensures { (result ≡ get_or x.now k (pos 0)) × (nat_abs result ≤ 2 ^ 31) }
 {
-    if k < x.len() {
-        return x[k] as i64;
-    }
-    0
+    if k < x.len() { i64::from(x[k]) } else { 0 }
 }
 
 // Whether (a, b) is (c, d).
 pub fn equal(a: i64, b: i64, c: i64, d: i64) -> bool
     ensures { result ≡ same (value a b) (value c d) }
 {
-    if a == c {
-        return b == d;
-    }
-    false
-}
-
-fn equal_at(x: &[i32], i: usize, a: i64, b: i64) -> bool
-    requires { i < 2 ^ 32 }
-    ensures { result ≡ same (coefficient x.now i) (value a b) }
-{
-    let xa = at(x, 2 * i);
-    let xb = at(x, 2 * i + 1);
-    equal(xa, xb, a, b)
+    a == c && b == d
 }
 
 // Whether coefficient i is (a, b).
 pub fn coefficient_is(x: &[i32], i: u32, a: i64, b: i64) -> bool
     ensures { result ≡ same (coefficient x.now i) (value a b) }
 {
-    equal_at(x, i as usize, a, b)
+    let k = 2 * (i as usize);
+    equal(at(x, k), at(x, k + 1), a, b)
 }
 
 // Whether three lengths are 2N.
@@ -64,21 +50,12 @@ pub fn three_full(n: u32, x: usize, y: usize, z: usize) -> bool
     ensures { result ≡ (full n x && (full n y && full n z)) }
 {
     let long = 2 * (n as usize);
-    if x == long {
-        if y == long {
-            return z == long;
-        }
-    }
-    false
+    x == long && y == long && z == long
 }
 
 // Makes each number zero.
 pub fn clear(out: &mut [i32])
     ensures { (length out.new ≡ length out.old) × Zeros out.new }
 {
-    let mut k = 0;
-    while k < out.len() {
-        out[k] = 0;
-        k += 1;
-    }
+    out.fill(0);
 }

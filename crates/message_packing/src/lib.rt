@@ -35,14 +35,10 @@ fn pack_into(n: usize, message: &[u8], m: &mut [i32])
     requires { (n ≤ 1024) × (length m.old ≡ 2 * n) }
     ensures { m.new ≡ array n (packed message.now) }
 {
-    let mut i = 0;
-    while i < n {
+    for i in 0..n {
         let v = pair_of(message, i as u32);
-        let a = v.a;
-        let b = v.b;
-        m[2 * i] = a;
-        m[2 * i + 1] = b;
-        i += 1;
+        m[2 * i] = v.a;
+        m[2 * i + 1] = v.b;
     }
 }
 

@@ -8,8 +8,5 @@ use crate::message_bytes;
 pub fn message_and_array_full(n: u32, message: usize, array: usize) -> bool
     ensures { result ≡ (eqb message (message_bytes n) && eqb array (2 * n)) }
 {
-    if message == message_bytes(n) {
-        return array == 2 * (n as usize);
-    }
-    false
+    message == message_bytes(n) && array == 2 * (n as usize)
 }

@@ -23,10 +23,7 @@ pub fn message_bytes(n: u32) -> usize
 pub fn full_with_message(n: u32, message: usize, x: usize, y: usize, z: usize) -> bool
     ensures { result ≡ (eqb message (message_bytes n) && (full n x && (full n y && full n z))) }
 {
-    if message == message_bytes(n) {
-        return arrays::three_full(n, x, y, z);
-    }
-    false
+    message == message_bytes(n) && arrays::three_full(n, x, y, z)
 }
 
 // Bit k of the message, highest bit of a byte first; 0 past its end.
@@ -34,24 +31,17 @@ pub fn bit_of(message: &[u8], k: usize) -> u8
     ensures { result ≡ bit_of message.now k }
 {
     if k / 8 < message.len() {
-        return (message[k / 8] >> (7 - k % 8)) % 2;
+        (message[k / 8] >> (7 - k % 8)) % 2
+    } else {
+        0
     }
-    0
 }
 
 // Whether a spare bit of the last byte is set.
 pub fn spare_bit_set(n: u32, message: &[u8]) -> bool
     ensures { result ≡ spare_bit_set n message.now }
 {
-    let end = 8 * message_bytes(n);
-    let mut k = 2 * (n as usize);
-    while k < end {
-        if bit_of(message, k) != 0 {
-            return true;
-        }
-        k += 1;
-    }
-    false
+    (2 * (n as usize)..8 * message_bytes(n)).any(|k| bit_of(message, k) != 0)
 }
 
 // The coefficient of pair i of the message's bits.
@@ -62,10 +52,11 @@ pub fn pair_of(message: &[u8], i: u32) -> Pair
     let a = bit_of(message, k);
     let b = bit_of(message, k + 1);
     if a + b == 2 {
-        return Pair { a: -1, b: -1 };
-    }
-    Pair {
-        a: a as i32,
-        b: b as i32,
+        Pair { a: -1, b: -1 }
+    } else {
+        Pair {
+            a: i32::from(a),
+            b: i32::from(b),
+        }
     }
 }

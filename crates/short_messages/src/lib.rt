@@ -13,10 +13,7 @@ use packing::{bit_of, message_bytes};
 pub fn too_long(n: u32, length: usize) -> bool
     ensures { result ≡ too_long n length }
 {
-    if length < message_bytes(n) {
-        return false;
-    }
-    true
+    message_bytes(n) <= length
 }
 
 // The bytes to lend for a short message that is opened: "(2N − 1)/8 bytes rounded down".
@@ -41,23 +38,20 @@ fn padded_byte(message: &[u8], j: usize) -> u8
     ensures { result ≡ byte (padded_bit message.now) j }
 {
     if j < message.len() {
-        return message[j];
+        message[j]
+    } else if j == message.len() {
+        128
+    } else {
+        0
     }
-    if j == message.len() {
-        return 128;
-    }
-    0
 }
 
 // The bits of a short message, the 1 and the zeros, as bytes to the whole of out.
 pub fn pad(message: &[u8], out: &mut [u8])
     ensures { out.new ≡ listed (length out.old) (byte (padded_bit message.now)) }
 {
-    let mut j = 0;
-    while j < out.len() {
-        let b = padded_byte(message, j);
-        out[j] = b;
-        j += 1;
+    for (j, b) in out.iter_mut().enumerate() {
+        *b = padded_byte(message, j);
     }
 }
 

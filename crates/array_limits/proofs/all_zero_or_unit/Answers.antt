@@ -1,7 +1,6 @@
 -- `all_zero_or_unit` meets its contract.
 use mathlib.Core.Path.{sym, ◌∙◌, subst}
-use lib.Dec.{T, lit≤}
-use lib.Signed.{lt_z_yes}
+use lib.Dec.{T}
 use Rattle.arrays.specs.Arrays.{AllWithin}
 use Rattle.arrays.proofs.Sizes.{are_within}
 use Rattle.array_limits.proofs.UnitTests.{all_together, not_within}
@@ -17,5 +16,5 @@ parts_together-requires c = (c.requires.0, c.requires.1, within c)
 pub returns-then-numbers_within : goal.returns-then-numbers_within
 returns-then-numbers_within c = c.parts_together.ensures ∙ all_together c.args.n c.args.x.now (within (goal.at.returns-then-numbers_within c).Then-numbers_within)
 
-pub returns : goal.returns
-returns c = not_within c.args.n c.args.x.now c.requires.1 (sym c.numbers_within.ensures ∙ c.if-numbers_within.false)
+pub returns-else-numbers_within : goal.returns-else-numbers_within
+returns-else-numbers_within c = c.if-numbers_within.false ∙ not_within c.args.n c.args.x.now c.requires.1 (sym c.numbers_within.ensures ∙ c.if-numbers_within.false)

@@ -1,6 +1,7 @@
 -- `equal` meets its contract.
 use mathlib.Core.Path.{sym, ◌∙◌, ap}
 use mathlib.Core.Bool.{Bool, ◌&&◌}
+use borrow.Author.Tests.{ne_eqb}
 use mir.Syntax.{w64}
 use mir.Val.{of_z}
 use Rattle.integers.proofs.Machine.{bits_same}
@@ -14,7 +15,7 @@ returns-then-a-c c = let s = c.before in
     same_bits s.args.b s.args.d s.ranges.b s.ranges.d
     ∙ sym (ap (λ (t : Bool). t && same_ℤ s.args.b s.args.d) (same_ℤ_true (bits_same s.ranges.a s.ranges.c c.if-a-c.true)))
 
-pub returns : goal.returns
+pub returns-else-a-c : goal.returns-else-a-c
 unfolding same
-returns c = let s = c.before in
-    sym (ap (λ (t : Bool). t && same_ℤ s.args.b s.args.d) (same_ℤ_false (λ e. c.if-a-c.false (ap (of_z w64) e))))
+returns-else-a-c c = let s = c.before in
+    ne_eqb _ _ c.if-a-c.false ∙ sym (ap (λ (t : Bool). t && same_ℤ s.args.b s.args.d) (same_ℤ_false (λ e. c.if-a-c.false (ap (of_z w64) e))))

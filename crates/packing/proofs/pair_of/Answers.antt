@@ -6,8 +6,8 @@ use borrow.Author.Rules.{rules}
 use lib.IntN.{pos}
 use mir.Syntax.{w32}
 use mir.Val.{SFits}
-use mir.Facts.{to_z_pos}
 use Rattle.eisenstein.specs.Values.{value}
+use Rattle.eisenstein.proofs.Pairs.{pair_read}
 use Rattle.packing.specs.Messages.{packed, pair}
 use Rattle.packing.proofs.RoundTrips.{bit_of_lt, pair_11, pair_other}
 use Rattle.packing.proofs.pair_of.Goals as goal
@@ -33,5 +33,5 @@ overflow_add-a c = omega (arith, a_lt c, b_lt c)
 pub returns-then-a-b-eq2 : goal.returns-then-a-b-eq2
 returns-then-a-b-eq2 c = let p = a_lt (goal.at.returns-then-a-b-eq2 c).After-bit_of-b in let q = b_lt (goal.at.returns-then-a-b-eq2 c).After-bit_of-b in sym (pair_11 _ _ (omega (arith, p, q, c.if-a-b-eq2.true)) (omega (arith, p, q, c.if-a-b-eq2.true))) ∙ packed-is (goal.at.returns-then-a-b-eq2 c).After-bit_of-b
 
-pub returns : goal.returns
-returns c = let p = a_lt (goal.at.returns c).After-bit_of-b in let q = b_lt (goal.at.returns c).After-bit_of-b in ap₂ value (to_z_pos w32 (omega (arith, p))) (to_z_pos w32 (omega (arith, q))) ∙ sym (pair_other _ _ p q c.if-a-b-eq2.false) ∙ packed-is (goal.at.returns c).After-bit_of-b
+pub returns-else-a-b-eq2 : goal.returns-else-a-b-eq2
+returns-else-a-b-eq2 c = let p = a_lt (goal.at.returns-else-a-b-eq2 c).After-bit_of-b in let q = b_lt (goal.at.returns-else-a-b-eq2 c).After-bit_of-b in (pair_read {w = w32} (search rules) (search rules) ∙ ap₂ value c.from.ensures c.from-else-a-b-eq2.ensures) ∙ sym (pair_other _ _ p q c.if-a-b-eq2.false) ∙ packed-is (goal.at.returns-else-a-b-eq2 c).After-bit_of-b

@@ -1,11 +1,8 @@
 -- `pad` meets its contract. The loop's invariant: the bytes that are written are right.
 use mathlib.Core.Path.{sym, ◌∙◌}
-use Prim.Native.Nat.{◌-◌, ◌≤◌}
 use native.Mathlib.Omega.{arith}
-use borrow.Author.Rules.{rules}
-use lib.ListN.{length, get_or}
+use lib.ListN.{length}
 use lib.Seq.{ext_get_or}
-use Rattle.arrays.proofs.Changing.{Changed, changed_none, set_next}
 use Rattle.packing.specs.Messages.{byte, listed}
 use Rattle.packing.proofs.RoundTrips.{listed_length, listed_at}
 use Rattle.short_messages.specs.ShortMessages.{padded_bit}
@@ -13,9 +10,9 @@ use Rattle.short_messages.proofs.pad.Goals as goal
 use Rattle.short_messages.proofs.pad.Goals.{Start}
 
 pub returns : goal.returns
-returns c = let f = c.loop-j.invariant.1 in
+returns c = let f = c.loop-j.invariant in
     let s = (goal.at.returns c).Start in
     let n = length s.args.out.now in
     let b = byte (padded_bit s.args.message.now) in
     ext_get_or 0 c.loop-j.out (listed n b) (f.long ∙ sym (listed_length n b))
-    (λ i h. f.new i (omega (arith, h, c.loop-j-test.false)) ∙ sym (listed_at n b i (omega (arith, h, f.long))))
+    (λ i h. f.new i (omega arith) ∙ sym (listed_at n b i (omega (arith, h, f.long))))

@@ -17,25 +17,23 @@ use Rattle.array_limits.proofs.limits.numbers_within.Goals as goal
 use Rattle.array_limits.proofs.limits.numbers_within.Goals.{then-is_beyond, else-is_beyond}
 use Rattle.array_limits.proofs.limits.numbers_within.Invariants.{test}
 
-pub loop-k-init : goal.loop-k-init
-loop-k-init c = (omega arith, every_none (test (nat_abs (to_z w32 (of_z w32 c.args.limit))) c.args.x.now))
+pub loop-z-init : goal.loop-z-init
+loop-z-init c = every_none (test (nat_abs (to_z w32 (of_z w32 c.args.limit))) c.args.x.now)
 
-pub loop-k-preserved : goal.loop-k-preserved
-loop-k-preserved c =
+pub loop-z-preserved : goal.loop-z-preserved
+loop-z-preserved c =
     let b : ℕ = nat_abs (to_z w32 (of_z w32 c.args.limit)) in
     let t : ℕ → Bool = test b c.args.x.now in
-    let k : ℕ = c.loop-k.k in
+    let k : ℕ = c.loop-z.z-index in
     let beyond : ltb b (nat_abs (get_or c.args.x.now k (pos 0))) ≡ c.is_beyond.result =
-    sym (c.is_beyond.ensures ∙ ap (λ (z : ℤ). ltb b (nat_abs z)) (to_z-of_z {w = w32} {z = get_or c.args.x.now k (pos 0)} (search rules))) in (
-      omega (arith, c.loop-k-test.true),
-      elim c.if-is_beyond.branch [
-        | then-is_beyond w ↦ w.within-is ∙ every_failed t k (ap not (beyond ∙ w.if-is_beyond.true))
-        | else-is_beyond w ↦ every_passed t k (w.within-is ∙ c.loop-k.invariant.1) (ap not (beyond ∙ w.if-is_beyond.false))
-      ],
-    )
+    sym (c.is_beyond.ensures ∙ ap (λ (z : ℤ). ltb b (nat_abs z)) (to_z-of_z {w = w32} {z = get_or c.args.x.now k (pos 0)} (search rules))) in
+    elim c.if-is_beyond.branch [
+      | then-is_beyond w ↦ w.within-is ∙ every_failed t k (ap not (beyond ∙ w.if-is_beyond.true))
+      | else-is_beyond w ↦ every_passed t k (w.within-is ∙ c.loop-z.invariant) (ap not (beyond ∙ w.if-is_beyond.false))
+    ]
 
 pub returns : goal.returns
 unfolding all_within
 returns c =
-    let e : c.loop-k.k ≡ length c.args.x.now = omega (arith, c.loop-k.invariant.0, c.loop-k-test.false) in
-    c.loop-k.invariant.1 ∙ ap₂ (λ (k : ℕ) (z : ℤ). all k (test (nat_abs z) c.args.x.now)) e (to_z-of_z c.ranges.limit)
+    let e : c.loop-z.z-index ≡ length c.args.x.now = omega arith in
+    c.loop-z.invariant ∙ ap₂ (λ (k : ℕ) (z : ℤ). all k (test (nat_abs z) c.args.x.now)) e (to_z-of_z c.ranges.limit)

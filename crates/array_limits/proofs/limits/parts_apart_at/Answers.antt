@@ -2,14 +2,12 @@
 use mathlib.Core.Path.{◌∙◌, ap}
 use mathlib.Core.List.{List, [], ◌∷◌}
 use Prim.Native.Nat.{ℕ, ◌+◌, ◌*◌}
-use borrow.Author.Rules.{rules}
-use lib.Dec.{ltb, lit≤}
+use lib.Dec.{ltb}
 use lib.IntN.{ℤ, pos, nat_abs}
 use lib.ListN.{get_or}
-use lib.Signed.{lt_z_yes}
 use mir.Syntax.{w32}
 use Rattle.integers.proofs.Ring.{var, ◌⊝◌}
-use Rattle.integers.proofs.Machine.{Leaf, given, fits, exact}
+use Rattle.integers.proofs.Machine.{Leaf, given, exact}
 use Rattle.polynomials.specs.Polynomials.{coefficient}
 use Rattle.array_limits.proofs.limits.parts_apart_at.Goals as goal
 use Rattle.array_limits.proofs.limits.parts_apart_at.Goals.{Start}

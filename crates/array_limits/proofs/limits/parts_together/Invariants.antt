@@ -1,21 +1,15 @@
 -- `parts_together` meets its contract. The loop's invariant: whether the parts of every coefficient so far are together.
-use mathlib.Core.Path.{◌≡◌, sym, ◌∙◌, ap}
+use mathlib.Core.Path.{◌≡◌}
 use mathlib.Core.Bool.{Bool, not}
 use mathlib.Core.List.{List}
-use mathlib.Core.Logic.{⊎_elim}
-use Prim.Native.Nat.{ℕ, ◌-◌, ◌≤◌}
-use native.Mathlib.Omega.{arith}
+use Prim.Native.Nat.{ℕ}
 use lib.Dec.{ltb}
 use lib.IntN.{ℤ, nat_abs, ◌-ℤ◌}
 use Rattle.polynomials.specs.Polynomials.{coefficient, all}
-use Rattle.arrays.proofs.Scans.{every_none, every_passed, every_failed}
 use Rattle.array_limits.proofs.limits.parts_together.Given as goal
 
 abbrev pub test : List ℤ → ℕ → Bool
 test x i = not (ltb 1 (nat_abs ((coefficient x i).a -ℤ (coefficient x i).b)))
 
 abbrev pub invariant-loop-i : goal.invariant-loop-i
-invariant-loop-i l = (l.i ≤ l.n) × (l.together ≡ all l.i (test l.x))
-
-abbrev pub decreases-loop-i : goal.decreases-loop-i
-decreases-loop-i l = l.n - l.i
+invariant-loop-i l = l.together ≡ all l.i (test l.x)
