@@ -47,13 +47,6 @@ module _ (k m : ℕ) (l : List ℤ) (p : k + m ≤ length l) where
   pub part_at : (j : ℕ) → j < m → get_or (take m (drop k l)) j (pos 0) ≡ get_or l (k + j) (pos 0)
   part_at j q = get_or-take m (drop k l) j (pos 0) q ∙ get_or-drop k l j (pos 0)
 
-  pub part_within : (b : ℕ) → ((i : ℕ) → k ≤ i → nat_abs (get_or l i (pos 0)) ≤ b) → AllWithin b (take m (drop k l))
-  part_within b s j = go (dec_lt j m)
-    where
-      go : Dec (j < m) → nat_abs (get_or (take m (drop k l)) j (pos 0)) ≤ b
-      go (yes q) = subst (λ (z : ℤ). nat_abs z ≤ b) (sym (part_at j q)) (s (k + j) (omega arith))
-      go (no q) = subst (λ (z : ℤ). nat_abs z ≤ b) (sym (get_or-eq_default (take m (drop k l)) (pos 0) (omega (arith, part_long)))) (omega arith)
-
 -- ---- one part more: the numbers from place k to place k + m are changed
 
 module _ {f : ℕ → ℤ} {l₀ l : List ℤ} (k m : ℕ) (part : List ℤ) (h : Changed (λ n i. get_or n i (pos 0)) f l₀ l k) (e : length part ≡ m) (p : k + m ≤ length l) where
