@@ -2,4 +2,4 @@ pub mod Laying
 pub mod RunSums
 pub mod StartsOf
 pub mod Products
-pub mod Rooms
+pub mod Lengths

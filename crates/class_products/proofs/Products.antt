@@ -1,15 +1,13 @@
 -- The sums of the runs that one operand brings, of rows along the other, are the classes of the convolution.
-use mathlib.Core.Path.{◌≡◌, refl, sym, ◌∙◌, ap, subst}
+use mathlib.Core.Path.{◌≡◌, refl, sym, ◌∙◌, ap}
 use mathlib.Core.Bool.{Bool, cond}
-use mathlib.Core.List.{List, [], ◌∷◌}
-use Prim.Native.Nat.{ℕ, zero, suc, ◌+◌, ◌-◌, ◌*◌, ◌%◌, ◌≤◌, ◌<◌}
+use mathlib.Core.List.{List}
+use Prim.Native.Nat.{ℕ, zero, suc, ◌+◌, ◌-◌, ◌%◌, ◌≤◌, ◌<◌}
 use native.Mathlib.Omega.{arith}
 use native.Mathlib.Decide.{dec_le, ℕ_discrete}
 use native.Mathlib.Nat.{mod-eq_of_lt, mod-eq-sub-mod, mod-lt}
 use borrow.Author.Tests.{eq-eqb, ne_eqb}
-use lib.Dec.{eqb}
 use lib.ListN.{length, get_or}
-use Rattle.eisenstein.specs.Values.{ℤ[ω], ◌*ω◌}
 use Rattle.eisenstein.specs.Reduction.{mod2}
 use Rattle.polynomials.specs.Polynomials.{Polynomial, convolution}
 use Rattle.polynomials.proofs.Promises.{convolution_single}

@@ -6,9 +6,9 @@ use Rattle.classes.specs.Classes.{product, plus, sum}
 abbrev pub Empty : List ℕ → Type 0
 Empty l = (k : ℕ) → get_or l k 0 ≡ 0
 
--- The first n numbers are classes.
-abbrev pub Classes : ℕ → List ℕ → Type 0
-Classes n l = (k : ℕ) → k < n → get_or l k 0 < 4
+-- Each number is a class.
+abbrev pub Classes : List ℕ → Type 0
+Classes l = (k : ℕ) → k < length l → get_or l k 0 < 4
 
 -- `new` is `old`, but that from place `start` on it has the n classes f.
 pub record Laid (n : ℕ) (f : ℕ → ℕ) (start : ℕ) (old new : List ℕ) : Type 0 where
@@ -51,18 +51,26 @@ pub record Starts (n m : ℕ) (x : ℕ → ℕ) (starts : List ℕ) (count : ℕ
 abbrev pub Fits : ℕ → (sums rows : List ℕ) → Type 0
 Fits a sums rows = a + length sums ≤ length rows
 
--- So from where each of `count` runs begins.
-pub record Runs (sums rows starts : List ℕ) (count : ℕ) : Type 0 where
+-- So from where each run of a list begins.
+pub record Runs (sums rows starts : List ℕ) : Type 0 where
   pub rows_long : length rows ≤ 8192
-  pub few : count ≤ 1024
-  pub starts_long : count ≤ length starts
-  pub fits : (i : ℕ) → i < count → Fits (get_or starts i 0) sums rows
+  pub few : length starts ≤ 1024
+  pub fits : (i : ℕ) → i < length starts → Fits (get_or starts i 0) sums rows
 
 -- `new`, as long as `old`, is the classes f.
 pub record Filled (f : ℕ → ℕ) (old new : List ℕ) : Type 0 where
   pub long : length new ≡ length old
   pub inside : (k : ℕ) → k < length old → get_or new k 0 ≡ f k
 
+-- The class k places after start i.
+abbrev pub class_at : List ℕ → List ℕ → (k i : ℕ) → ℕ
+class_at rows starts k i = get_or rows (get_or starts i 0 + k) 0
+
+-- A sum, and the classes that four runs have there.
+abbrev pub four : (rows starts sums : List ℕ) → ℕ → ℕ
+four rows starts sums k =
+    plus (plus (plus (plus (get_or sums k 0) (class_at rows starts k 0)) (class_at rows starts k 1)) (class_at rows starts k 2)) (class_at rows starts k 3)
+
 -- The sums of the first m runs of a list.
 abbrev pub Sums : (rows starts : List ℕ) → ℕ → List ℕ → Type 0
-Sums rows starts m l = (k : ℕ) → k < length l → get_or l k 0 ≡ sum m (λ i. get_or rows (get_or starts i 0 + k) 0)
+Sums rows starts m l = (k : ℕ) → k < length l → get_or l k 0 ≡ sum m (class_at rows starts k)

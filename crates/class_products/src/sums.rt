@@ -3,81 +3,70 @@
 ghost use Rattle.std.specs.Prelude.{◌≡◌, ℕ, ◌+◌, ◌*◌, ◌%◌, ◌<◌, ◌≤◌, length, get_or};
 ghost use Rattle.polynomials.specs.Polynomials.{array};
 ghost use Rattle.classes.specs.Classes.{remainder_of, plus};
-ghost use Rattle.class_products.specs.Steps.{Empty, Fits, Runs, Filled, Sums};
+ghost use Rattle.class_products.specs.Steps.{Empty, Fits, Runs, Filled, four, Sums};
 
 use classes::remainders;
 
-// Adds one run of classes, from place a on, to all sums.
-fn add_run(sums: &mut [u8], rows: &[u8], a: usize)
-    requires { Fits a sums.old rows.now × (length rows.now ≤ 8192) }
-    ensures { Filled (λ k. plus (get_or sums.old k 0) (get_or rows.now (a + k) 0)) sums.old sums.new }
+// Adds one run of classes to all sums.
+fn add_run(sums: &mut [u8], run: &[u8])
+    requires { length sums.old ≤ length run.now }
+    ensures { Filled (λ k. plus (get_or sums.old k 0) (get_or run.now k 0)) sums.old sums.new }
 {
-    let mut k = 0;
-    while k < sums.len() {
-        sums[k] ^= rows[a + k];
-        k += 1;
+    for (k, sum) in sums.iter_mut().enumerate() {
+        *sum ^= run[k];
     }
 }
 
-// Adds four runs, from places a to d on, so that each sum is read and written once for all four.
-fn add_four(sums: &mut [u8], rows: &[u8], a: usize, b: usize, c: usize, d: usize)
-    requires fits { Fits a sums.old rows.now × Fits b sums.old rows.now × Fits c sums.old rows.now × Fits d sums.old rows.now }
+// Adds four runs, each from a start on, so that each sum is read and written once for all four.
+fn add_four(sums: &mut [u8], rows: &[u8], starts: [usize; 4])
+    requires fits { (i : ℕ) → i < 4 → Fits (get_or starts i 0) sums.old rows.now }
     requires rows_len_bound { length rows.now ≤ 8192 }
-    ensures { Filled (λ k. plus (plus (plus (plus (get_or sums.old k 0) (get_or rows.now (a + k) 0)) (get_or rows.now (b + k) 0)) (get_or rows.now (c + k) 0)) (get_or rows.now (d + k) 0))
-        sums.old sums.new }
+    ensures { Filled (four rows.now starts sums.old) sums.old sums.new }
 {
-    let mut k = 0;
-    while k < sums.len() {
-        sums[k] = sums[k] ^ rows[a + k] ^ rows[b + k] ^ rows[c + k] ^ rows[d + k];
-        k += 1;
+    for (k, sum) in sums.iter_mut().enumerate() {
+        *sum = *sum
+            ^ rows[starts[0] + k]
+            ^ rows[starts[1] + k]
+            ^ rows[starts[2] + k]
+            ^ rows[starts[3] + k];
     }
-}
-
-// Where run m of the list begins.
-fn start(starts: &[u16], m: usize) -> usize
-    requires { (m < length starts.now) × (get_or starts.now m 0 ≤ 8192) }
-    ensures { result ≡ get_or starts.now m 0 }
-{
-    starts[m] as usize
 }
 
 // Adds the first runs of the list to sums that are zero, four at a time, and gives how many.
-fn add_fours(sums: &mut [u8], rows: &[u8], starts: &[u16], count: usize) -> usize
-    requires { Runs sums.old rows.now starts.now count × Empty sums.old }
-    ensures { (result ≤ count) × (length sums.new ≡ length sums.old) × Sums rows.now starts.now result sums.new }
+fn add_fours(sums: &mut [u8], rows: &[u8], starts: &[u16]) -> usize
+    requires { Runs sums.old rows.now starts.now × Empty sums.old }
+    ensures { (result ≤ length starts.now) × (length sums.new ≡ length sums.old) × Sums rows.now starts.now result sums.new }
 {
-    let mut m = 0;
-    while m + 4 <= count {
-        let a = start(starts, m);
-        let b = start(starts, m + 1);
-        let c = start(starts, m + 2);
-        let d = start(starts, m + 3);
-        add_four(sums, rows, a, b, c, d);
-        m += 4;
+    let fours = starts.len() - starts.len() % 4;
+    for m in (0..fours).step_by(4) {
+        let starts = [
+            usize::from(starts[m]),
+            usize::from(starts[m + 1]),
+            usize::from(starts[m + 2]),
+            usize::from(starts[m + 3]),
+        ];
+        add_four(sums, rows, starts);
     }
-    m
+    fours
 }
 
 // Adds the runs after them.
-fn add_rest(sums: &mut [u8], rows: &[u8], starts: &[u16], from: usize, count: usize)
-    requires { (from ≤ count) × Runs sums.old rows.now starts.now count × Sums rows.now starts.now from sums.old }
-    ensures { (length sums.new ≡ length sums.old) × Sums rows.now starts.now count sums.new }
+fn add_rest(sums: &mut [u8], rows: &[u8], starts: &[u16], done: usize)
+    requires { (done ≤ length starts.now) × Runs sums.old rows.now starts.now × Sums rows.now starts.now done sums.old }
+    ensures { (length sums.new ≡ length sums.old) × Sums rows.now starts.now (length starts.now) sums.new }
 {
-    let mut m = from;
-    while m < count {
-        let a = start(starts, m);
-        add_run(sums, rows, a);
-        m += 1;
+    for start in &starts[done..] {
+        add_run(sums, &rows[usize::from(*start)..]);
     }
 }
 
 // Adds all runs of the list to sums that are zero.
-pub(crate) fn add_runs(sums: &mut [u8], rows: &[u8], starts: &[u16], count: usize)
-    requires { Runs sums.old rows.now starts.now count × Empty sums.old }
-    ensures { (length sums.new ≡ length sums.old) × Sums rows.now starts.now count sums.new }
+pub(crate) fn add_runs(sums: &mut [u8], rows: &[u8], starts: &[u16])
+    requires { Runs sums.old rows.now starts.now × Empty sums.old }
+    ensures { (length sums.new ≡ length sums.old) × Sums rows.now starts.now (length starts.now) sums.new }
 {
-    let done = add_fours(sums, rows, starts, count);
-    add_rest(sums, rows, starts, done, count);
+    let done = add_fours(sums, rows, starts);
+    add_rest(sums, rows, starts, done);
 }
 
 // Writes the value of each class.
@@ -86,14 +75,9 @@ pub(crate) fn write_remainders(sums: &[u8], n: usize, out: &mut [i32])
     ensures { out.new ≡ array n (λ i. remainder_of (get_or sums.now i 0 % 4)) }
 {
     let values = remainders();
-    let mut i = 0;
-    while i < n {
-        let k = (sums[i] % 4) as usize;
-        let r = values[k];
-        let a = r.a;
-        let b = r.b;
-        out[2 * i] = a;
-        out[2 * i + 1] = b;
-        i += 1;
+    for i in 0..n {
+        let value = values[usize::from(sums[i] % 4)];
+        out[2 * i] = value.a;
+        out[2 * i + 1] = value.b;
     }
 }

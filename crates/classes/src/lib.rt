@@ -56,10 +56,7 @@ pub fn remainders() -> [Pair; 4]
 fn bit(x: i32) -> u8
     ensures { (result ≡ bit x) × (result < 2) }
 {
-    if eisenstein::odd(x as i64) {
-        return 1;
-    }
-    0
+    u8::from(eisenstein::odd(i64::from(x)))
 }
 
 // The class of (a, b).

@@ -9,20 +9,15 @@ ghost use Rattle.unit_operands.specs.Operands.{Forms, multipliable, repeatable};
 mod twice;
 
 // Whether x is of zeros and units, y as long with small numbers, and an output of so many numbers has room for the product.
+#[tactic(auto, using(std::proofs::lemmas::Bool::Decides::nat_tests), unfolding(crate::specs::Operands::multipliable))]
 pub fn multipliable(n: u32, x: &[i32], y: &[i32], room: usize) -> bool
     ensures { result ≡ multipliable n x.now y.now room }
 {
-    if !array_limits::zeros_and_units(x, n) {
-        return false;
-    }
     let long = 2 * (n as usize);
-    if y.len() != long {
-        return false;
-    }
-    if room != long {
-        return false;
-    }
-    array_limits::all_small(y)
+    array_limits::zeros_and_units(x, n)
+        && y.len() == long
+        && room == long
+        && array_limits::all_small(y)
 }
 
 // y, and y again after it, to `twice`, so that each rotation of y is one run of numbers. Answers whether it was laid out; nothing is written otherwise.

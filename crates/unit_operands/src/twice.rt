@@ -4,16 +4,11 @@ ghost use Rattle.arrays.specs.Arrays.{Small};
 ghost use Rattle.unit_operands.specs.Operands.{repeatable};
 ghost use Rattle.unit_operands.specs.Repeated.{Twice};
 
+#[tactic(auto, using(std::proofs::lemmas::Bool::Decides::nat_tests), unfolding(crate::specs::Operands::repeatable))]
 pub(crate) fn repeatable(y: &[i32], room: usize) -> bool
     ensures { result ≡ repeatable y.now room }
 {
-    if y.len() > 2048 {
-        return false;
-    }
-    if room != 2 * y.len() {
-        return false;
-    }
-    array_limits::all_small(y)
+    y.len() <= 2048 && room == 2 * y.len() && array_limits::all_small(y)
 }
 
 // Lays y out twice, once after the other.
@@ -22,11 +17,8 @@ pub(crate) fn lay_out(y: &[i32], twice: &mut [i16])
     requires small { Small y.now }
     ensures { Twice y.now twice.new }
 {
-    let mut k = 0;
-    while k < y.len() {
-        let v = y[k] as i16;
-        twice[k] = v;
-        twice[y.len() + k] = v;
-        k += 1;
+    for (k, v) in y.iter().enumerate() {
+        twice[k] = *v as i16;
+        twice[y.len() + k] = *v as i16;
     }
 }

@@ -1,43 +1,34 @@
 -- The front of a block, filled with sums, and the sums of an array changed part after part.
-use mathlib.Core.Path.{◌≡◌, sym, ◌∙◌, ap, ap₂, subst}
+use mathlib.Core.Path.{◌≡◌, sym, ◌∙◌, ap, subst}
 use mathlib.Core.List.{List, ◌++◌}
 use Prim.Native.Nat.{ℕ, ◌+◌, ◌-◌, ◌≤◌, ◌<◌}
 use native.Mathlib.Omega.{arith}
 use native.Mathlib.Decide.{dec_lt}
 use lib.IntN.{ℤ, pos, nat_abs, ◌+ℤ◌}
 use lib.ListN.{length, get_or, take, drop, length-append, length-drop, get_or-append, get_or-eq_default}
-use lib.Seq.{length-take-le, take_at, get_or-append-add, get_or-take, get_or-drop}
+use lib.Seq.{length-take-le, get_or-append-add, get_or-take, get_or-drop}
 use Rattle.arrays.specs.Arrays.{AllWithin}
 use Rattle.arrays.proofs.Changing.{Changed}
-use Rattle.unit_products.specs.Rotations.{six_at, Filled, Added}
+use Rattle.unit_products.specs.Rotations.{Filled, Added}
 
 -- ---- the first n numbers of a block are filled
 
 module _ (n : ℕ) (block front : List ℤ) (g : ℕ → ℤ) (p : n ≤ length block) (h : Filled g (take n block) front) where
-  front_long : length front ≡ n
+  pub front_long : length front ≡ n
   front_long = h.long ∙ length-take-le n block p
+
+  pub front_at : (k : ℕ) → k < n → get_or front k (pos 0) ≡ g k
+  front_at k q = h.inside k (omega (arith, length-take-le n block p))
+
+  pub front_within : (b : ℕ) → ((k : ℕ) → nat_abs (g k) ≤ b) → AllWithin b front
+  front_within b s k = go (dec_lt k n)
+    where
+      go : Dec (k < n) → nat_abs (get_or front k (pos 0)) ≤ b
+      go (yes q) = subst (λ (z : ℤ). nat_abs z ≤ b) (sym (front_at k q)) (s k)
+      go (no q) = subst (λ (z : ℤ). nat_abs z ≤ b) (sym (get_or-eq_default front (pos 0) (omega (arith, front_long)))) (omega arith)
 
   pub block_long : length (front ++ drop n block) ≡ length block
   block_long = omega (arith, length-append front (drop n block), length-drop n block, front_long)
-
-  block_front : take n (front ++ drop n block) ≡ front
-  block_front = take_at front (drop n block) n front_long
-
-  pub block_front_long : length (take n (front ++ drop n block)) ≡ n
-  block_front_long = ap length block_front ∙ front_long
-
-  pub block_at : (k : ℕ) → k < n → get_or (take n (front ++ drop n block)) (0 + k) (pos 0) ≡ g k
-  block_at k q =
-      ap (λ (l : List ℤ). get_or l (0 + k) (pos 0)) block_front
-      ∙ ap (λ (i : ℕ). get_or front i (pos 0)) {x = 0 + k} {y = k} (omega arith)
-      ∙ h.inside k (omega (arith, length-take-le n block p))
-
-  pub block_within : (b : ℕ) → ((k : ℕ) → nat_abs (g k) ≤ b) → AllWithin b (take n (front ++ drop n block))
-  block_within b s k = subst (λ (l : List ℤ). nat_abs (get_or l k (pos 0)) ≤ b) (sym block_front) (go (dec_lt k n))
-    where
-      go : Dec (k < n) → nat_abs (get_or front k (pos 0)) ≤ b
-      go (yes q) = subst (λ (z : ℤ). nat_abs z ≤ b) (sym (h.inside k (omega (arith, length-take-le n block p)))) (s k)
-      go (no q) = subst (λ (z : ℤ). nat_abs z ≤ b) (sym (get_or-eq_default front (pos 0) (omega (arith, front_long)))) (omega arith)
 
 -- ---- the same numbers, added under another name
 
@@ -55,21 +46,6 @@ module _ (k m : ℕ) (l : List ℤ) (p : k + m ≤ length l) where
 
   pub part_at : (j : ℕ) → j < m → get_or (take m (drop k l)) j (pos 0) ≡ get_or l (k + j) (pos 0)
   part_at j q = get_or-take m (drop k l) j (pos 0) q ∙ get_or-drop k l j (pos 0)
-
-  pub part_within : (b : ℕ) → ((i : ℕ) → k ≤ i → nat_abs (get_or l i (pos 0)) ≤ b) → AllWithin b (take m (drop k l))
-  part_within b s j = go (dec_lt j m)
-    where
-      go : Dec (j < m) → nat_abs (get_or (take m (drop k l)) j (pos 0)) ≤ b
-      go (yes q) = subst (λ (z : ℤ). nat_abs z ≤ b) (sym (part_at j q)) (s (k + j) (omega arith))
-      go (no q) = subst (λ (z : ℤ). nat_abs z ≤ b) (sym (get_or-eq_default (take m (drop k l)) (pos 0) (omega (arith, part_long)))) (omega arith)
-
--- the sum at six places, each k + j further
-pub six_further : (t : List ℤ) (a b c d e f k j : ℕ) → six_at t (a + k + j) (b + k + j) (c + k + j) (d + k + j) (e + k + j) (f + k + j) ≡ six_at t (a + (k + j)) (b + (k + j)) (c + (k + j)) (d + (k + j)) (e + (k + j)) (f + (k + j))
-six_further t a b c d e f k j =
-    ap₂ ◌+ℤ◌ (ap₂ ◌+ℤ◌ (ap₂ ◌+ℤ◌ (ap₂ ◌+ℤ◌ (ap₂ ◌+ℤ◌ (at a) (at b)) (at c)) (at d)) (at e)) (at f)
-  where
-    at : (i : ℕ) → get_or t (i + k + j) (pos 0) ≡ get_or t (i + (k + j)) (pos 0)
-    at i = ap (λ (n : ℕ). get_or t n (pos 0)) {x = i + k + j} {y = i + (k + j)} (omega arith)
 
 -- ---- one part more: the numbers from place k to place k + m are changed
 

@@ -1,6 +1,6 @@
 -- The rotations of an array that stands twice, what they add to the sums, and how large those get.
 use mathlib.Core.Path.{◌≡◌, refl, sym, ◌∙◌, ap, ap₂, subst}
-use mathlib.Core.List.{List}
+use mathlib.Core.List.{List, [], ◌∷◌}
 use mathlib.Core.Logic.{◌⊎◌, inl, inr}
 use Prim.Native.Nat.{ℕ, ◌+◌, ◌-◌, ◌*◌, ◌%◌, ◌^◌, ◌≤◌, ◌<◌}
 use native.Mathlib.Omega.{arith}
@@ -13,12 +13,12 @@ use Rattle.integers.proofs.Absolute.{natAbs-+}
 use Rattle.eisenstein.specs.Values.{ℤ[ω], value, 𝟘, ◌+ω◌}
 use Rattle.eisenstein.proofs.Laws.{+ω_assoc, +ω_comm, +ω-zero}
 use Rattle.polynomials.specs.Polynomials.{Polynomial, coefficient, sum}
-use Rattle.polynomials.proofs.Eisenstein.{sum-split}
+use Rattle.polynomials.proofs.Eisenstein.{sum_same, sum-split}
 use Rattle.arrays.specs.Arrays.{AllWithin, Small}
 use Rattle.arrays.proofs.Changing.{Changed}
 use Rattle.arrays.proofs.Scans.{sum_none, sum_more}
 use Rattle.unit_operands.specs.Repeated.{Twice}
-use Rattle.unit_products.specs.Rotations.{run, runs, six_at, Places, Filled, Added, Summed, Rotated}
+use Rattle.unit_products.specs.Rotations.{run, runs, number_at, six_at, Places, Filled, Added, Summed, Rotated}
 
 -- ---- an array that stands twice
 
@@ -106,22 +106,36 @@ module _ (n : ℕ) (t : List ℤ) (small : AllWithin 5461 t) where
       (summed_more ((m + 1) * 5461) (λ i. sum (m + 1) (λ k. run n t (f k) i)) h (run_added (f m) (h.long ∙ e) g) (omega arith) (λ i. sym (sum_more (λ k. run n t (f k) i) m)))
 
   -- six more
-  pub six_below : (a b c d e f : ℕ) → nat_abs (six_at t a b c d e f) ≤ 6 * 5461
-  six_below a b c d e f =
-      let x : ℤ = get_or t a (pos 0) in
-      let y : ℤ = get_or t b (pos 0) in
-      let z : ℤ = get_or t c (pos 0) in
-      let w : ℤ = get_or t d (pos 0) in
-      let u : ℤ = get_or t e (pos 0) in
-      let v : ℤ = get_or t f (pos 0) in
-      omega (arith, natAbs-+ (x +ℤ y +ℤ z +ℤ w +ℤ u) v, natAbs-+ (x +ℤ y +ℤ z +ℤ w) u, natAbs-+ (x +ℤ y +ℤ z) w, natAbs-+ (x +ℤ y) z, natAbs-+ x y, small a, small b, small c, small d, small e, small f)
+  pub six_below : (starts : List ℕ) (k : ℕ) → nat_abs (six_at t starts k) ≤ 6 * 5461
+  six_below starts k =
+      let x : ℤ = number_at t starts k 0 in
+      let y : ℤ = number_at t starts k 1 in
+      let z : ℤ = number_at t starts k 2 in
+      let w : ℤ = number_at t starts k 3 in
+      let u : ℤ = number_at t starts k 4 in
+      let v : ℤ = number_at t starts k 5 in
+      let at : (i : ℕ) → nat_abs (number_at t starts k i) ≤ 5461 = λ i. small (get_or starts i 0 + k) in
+      omega (arith, natAbs-+ (x +ℤ y +ℤ z +ℤ w +ℤ u) v, natAbs-+ (x +ℤ y +ℤ z +ℤ w) u, natAbs-+ (x +ℤ y +ℤ z) w, natAbs-+ (x +ℤ y) z, natAbs-+ x y, at 0, at 1, at 2, at 3, at 4, at 5)
 
-  pub six_summed : (f : ℕ → ℕ) (m : ℕ) (l₀ l l' : List ℤ) → length l₀ ≡ 2 * n → Rotated n t f m l₀ l → Added (λ k. six_at t (2 * (n - f m) + k) (2 * (n - f (m + 1)) + k) (2 * (n - f (m + 2)) + k) (2 * (n - f (m + 3)) + k) (2 * (n - f (m + 4)) + k) (2 * (n - f (m + 5)) + k)) l l' → Rotated n t f (m + 6) l₀ l'
+  -- where six rotations begin
+  abbrev pub six_starts : (ℕ → ℕ) → ℕ → List ℕ
+  six_starts f m =
+      2 * (n - f m) ∷ 2 * (n - f (m + 1)) ∷ 2 * (n - f (m + 2)) ∷ 2 * (n - f (m + 3)) ∷ 2 * (n - f (m + 4)) ∷ 2 * (n - f (m + 5)) ∷ []
+
+  pub six_summed : (f : ℕ → ℕ) (m : ℕ) (l₀ l l' : List ℤ) → length l₀ ≡ 2 * n → Rotated n t f m l₀ l → Added (six_at t (six_starts f m)) l l' → Rotated n t f (m + 6) l₀ l'
   unfolding ◌+ω◌
   six_summed f m l₀ l l' e h g =
       summed_more ((m + 6) * 5461) (λ i. sum (m + 6) (λ k. run n t (f k) i)) h
-      (added_summed {g = λ k. six_at t (2 * (n - f m) + k) (2 * (n - f (m + 1)) + k) (2 * (n - f (m + 2)) + k) (2 * (n - f (m + 3)) + k) (2 * (n - f (m + 4)) + k) (2 * (n - f (m + 5)) + k)} {b = 6 * 5461} (λ k. six_below (2 * (n - f m) + k) (2 * (n - f (m + 1)) + k) (2 * (n - f (m + 2)) + k) (2 * (n - f (m + 3)) + k) (2 * (n - f (m + 4)) + k) (2 * (n - f (m + 5)) + k)) (h.long ∙ e) g)
+      (added_summed {g = six_at t (six_starts f m)} {b = 6 * 5461} (six_below (six_starts f m)) (h.long ∙ e) g)
       (omega arith) (λ i. sum_six (λ k. run n t (f k) i) m)
+
+  -- the same places under another name
+  pub rotated_same : {f g : ℕ → ℕ} {m : ℕ} {l₀ l : List ℤ} → ((k : ℕ) → k < m → f k ≡ g k) → Rotated n t f m l₀ l → Rotated n t g m l₀ l
+  rotated_same {m = m} {l₀ = l₀} e h = record {
+    long = h.long;
+    sums = λ i p. h.sums i p ∙ ap (λ (z : ℤ[ω]). coefficient l₀ i +ω z) (sum_same m (λ k q. ap (λ (j : ℕ). run n t j i) (e k q)));
+    grown = h.grown;
+  }
 
   -- all that a unit brings: by sixes, and then the rest
   pub unit_summed : {u : ℤ[ω]} {x : Polynomial} (places : List ℕ) (count r : ℕ) {l₀ l l' : List ℤ} → n ≤ 1024 → Places n u x places count → r ≤ count → Rotated n t (λ m. get_or places m 0) r l₀ l → Rotated n t (λ m. get_or places (r + m) 0) (count - r) l l' → Summed n (runs n t u x) (2 ^ 23) l₀ l'

@@ -31,19 +31,18 @@ pub record Places (n : ℕ) (u : ℤ[ω]) (x : Polynomial) (places : List ℕ) (
   pub below : (m : ℕ) → m < count → get_or places m 0 < n
   pub sums : (f : Polynomial) → sum count (λ m. f (get_or places m 0)) ≡ sum n (λ j. is u (x j) *ω f j)
 
--- the sum of the numbers at six places
-abbrev pub six_at : List ℤ → (a b c d e f : ℕ) → ℤ
-six_at l a b c d e f =
-    get_or l a (pos 0) +ℤ get_or l b (pos 0) +ℤ get_or l c (pos 0) +ℤ get_or l d (pos 0) +ℤ get_or l e (pos 0) +ℤ get_or l f (pos 0)
+-- the number k places after start i
+abbrev pub number_at : List ℤ → List ℕ → (k i : ℕ) → ℤ
+number_at l starts k i = get_or l (get_or starts i 0 + k) (pos 0)
 
--- from place a on there are as many numbers as sums
-abbrev pub Fits : ℕ → (sums numbers : List ℤ) → Type 0
-Fits a sums numbers = a + length sums ≤ length numbers
+-- the sum of the numbers k places after six starts
+abbrev pub six_at : List ℤ → List ℕ → ℕ → ℤ
+six_at l starts k =
+    number_at l starts k 0 +ℤ number_at l starts k 1 +ℤ number_at l starts k 2 +ℤ number_at l starts k 3 +ℤ number_at l starts k 4 +ℤ number_at l starts k 5
 
--- so from each of six places
-abbrev pub SixFit : (a b c d e f : ℕ) → (sums numbers : List ℤ) → Type 0
-SixFit a b c d e f sums numbers =
-    Fits a sums numbers × Fits b sums numbers × Fits c sums numbers × Fits d sums numbers × Fits e sums numbers × Fits f sums numbers
+-- from each of six starts on there are so many numbers
+abbrev pub SixFit : List ℕ → ℕ → List ℤ → Type 0
+SixFit starts count numbers = (i : ℕ) → i < 6 → get_or starts i 0 + count ≤ length numbers
 
 -- `new`, as long as `old`, is the numbers
 pub record Filled (numbers : ℕ → ℤ) (old new : List ℤ) : Type 0 where
@@ -65,13 +64,15 @@ pub record Summed (n : ℕ) (x : Polynomial) (b : ℕ) (old new : List ℤ) : Ty
 abbrev pub Rotated : ℕ → List ℤ → (ℕ → ℕ) → ℕ → (old new : List ℤ) → Type 0
 Rotated n twice place m = Summed n (λ i. sum m (λ k. run n twice (place k) i)) (m * 5461)
 
--- sums of 2n numbers at most b in size, what stands twice, and the places by which it is to be rotated
-pub record Summands (n b : ℕ) (sums twice : List ℤ) (places : List ℕ) (count : ℕ) : Type 0 where
+-- sums of 2n numbers at most b in size, and what stands twice
+pub record Summands (n b : ℕ) (sums twice : List ℤ) : Type 0 where
   pub N_small : n ≤ 1024
   pub long : length sums ≡ 2 * n
   pub twice_long : length twice ≡ 2 * (2 * n)
-  pub few : count ≤ n
-  pub places_long : n ≤ length places
-  pub below : (m : ℕ) → m < count → get_or places m 0 < n
   pub sums_below : AllWithin b sums
   pub twice_below : AllWithin 5461 twice
+
+-- places by which it is to be rotated
+pub record PlacesBelow (n : ℕ) (places : List ℕ) : Type 0 where
+  pub few : length places ≤ n
+  pub below : (m : ℕ) → m < length places → get_or places m 0 < n

@@ -20,13 +20,11 @@ pub(crate) fn places_of(x: &[i32], n: usize, ua: i32, ub: i32, places: &mut [u16
     ensures { (length places.new ≡ length places.old) × Places n (value ua ub) (coefficient x.now) places.new result }
 {
     let mut count = 0;
-    let mut j = 0;
-    while j < n {
+    for j in 0..n {
         places[count] = j as u16;
         if coefficient_is(x, j, ua, ub) {
             count += 1;
         }
-        j += 1;
     }
     count
 }

@@ -6,22 +6,20 @@ use native.Mathlib.Omega.{arith}
 use lib.Dec.{T, eqb, eqb→eq}
 use lib.IntN.{ℤ}
 use mir.Syntax.{w64}
-use Rattle.integers.proofs.Machine.{cast_fits, cast_read}
+use mir.Val.{bool_byte, to_z, of_z}
+use Rattle.integers.proofs.Machine.{cast_read}
 use Rattle.eisenstein.specs.Reduction.{bit}
 use Rattle.eisenstein.proofs.Modulo2.{bit_lt}
 use Rattle.classes.proofs.bit.Goals as goal
 
-module _ {x z : ℤ} {t : Bool} (e : z ≡ x) (h : t ≡ eqb (bit z) 1) where
-  one : t ≡ true → (1 ≡ bit x) × (1 < 2)
-  one p = (sym (eqb→eq (bit x) 1 (subst T (sym p ∙ h ∙ ap (λ (y : ℤ). eqb (bit y) 1) e) tt)), omega arith)
-
-  none : t ≡ false → (0 ≡ bit x) × (0 < 2)
-  none p = (go (bit x) (bit_lt x) (sym (h ∙ ap (λ (y : ℤ). eqb (bit y) 1) e) ∙ p), omega arith)
-    where
-      go : (b : ℕ) → b < 2 → eqb b 1 ≡ false → 0 ≡ b
-      go zero q r = omega arith
-      go (suc zero) q r = cc
-      go (suc (suc b)) q r = absurd (omega arith)
+-- the byte of the test whether a bit is 1
+byte : (b r : ℕ) (t : Bool) → b < 2 → t ≡ eqb b 1 → r ≡ bool_byte t → (r ≡ b) × (r < 2)
+byte b r true p h e = (e ∙ sym (eqb→eq b 1 (subst T h tt)), omega (arith, e))
+byte zero r false p h e = (e, omega (arith, e))
+byte (suc zero) r false p h e = absurd (cc)
+byte (suc (suc b)) r false p h e = absurd (omega arith)
 
 pub returns : goal.returns
-returns c = none (cast_read w64 tt c.ranges.x) c.odd.ensures c.if-odd.false
+returns c =
+    let read : to_z w64 (of_z w64 c.from.result) ≡ c.args.x = ap (λ (z : ℤ). to_z w64 (of_z w64 z)) c.from.ensures ∙ cast_read w64 tt c.ranges.x in
+    byte (bit c.args.x) c.from-2.result c.odd.result (bit_lt c.args.x) (c.odd.ensures ∙ ap (λ (z : ℤ). eqb (bit z) 1) read) c.from-2.ensures

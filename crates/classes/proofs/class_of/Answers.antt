@@ -1,7 +1,6 @@
 -- `class_of` meets its contract.
 use mathlib.Core.Path.{◌∙◌, ap, ap₂}
 use Prim.Native.Nat.{ℕ, ◌+◌, ◌*◌}
-use native.Mathlib.Omega.{arith}
 use mir.Facts.{to_z-of_z}
 use Rattle.eisenstein.specs.Reduction.{bit}
 use Rattle.classes.specs.Classes.{class_of}

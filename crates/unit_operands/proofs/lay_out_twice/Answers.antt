@@ -1,11 +1,10 @@
 -- `lay_out_twice` meets its contract.
-use mathlib.Core.Path.{◌≡◌, refl, sym, ◌∙◌}
+use mathlib.Core.Path.{◌≡◌, sym, ◌∙◌}
 use mathlib.Core.Bool.{true}
 use mathlib.Core.List.{◌++◌}
-use borrow.Author.Tests.{not-true, not-false}
 use lib.ListN.{length}
 use Rattle.unit_operands.specs.Operands.{repeatable}
-use Rattle.unit_operands.proofs.Operands.{formed, not_formed}
+use Rattle.unit_operands.proofs.Operands.{formed}
 use Rattle.unit_operands.proofs.Repeated.{joined_twice, repeatable_facts}
 use Rattle.unit_operands.proofs.lay_out_twice.Goals as goal
 use Rattle.unit_operands.proofs.lay_out_twice.Goals.{Else-not-repeatable}

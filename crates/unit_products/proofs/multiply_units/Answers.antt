@@ -1,14 +1,9 @@
 -- `multiply_units` meets its contract.
-use mathlib.Core.Path.{◌≡◌, refl, sym, ◌∙◌}
+use mathlib.Core.Path.{◌≡◌, sym, ◌∙◌}
 use mathlib.Core.Bool.{true}
-use mathlib.Core.List.{List}
-use borrow.Author.Rules.{rules}
-use borrow.Author.Tests.{not-true, not-false}
-use lib.IntN.{ℤ}
 use lib.ListN.{length}
-use Rattle.polynomials.specs.Polynomials.{coefficient, array, convolution}
 use Rattle.unit_operands.specs.Operands.{multipliable}
-use Rattle.unit_operands.proofs.Operands.{operands_of, formed, not_formed}
+use Rattle.unit_operands.proofs.Operands.{operands_of}
 use Rattle.unit_products.proofs.multiply_units.Goals as goal
 use Rattle.unit_products.proofs.multiply_units.Goals.{Else-not-multipliable}
 

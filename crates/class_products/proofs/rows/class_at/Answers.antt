@@ -1,7 +1,6 @@
 -- `class_at` meets its contract.
 use mir.Syntax.{w32}
-use mathlib.Core.Path.{◌≡◌, ◌∙◌, ap, ap₂}
-use borrow.Author.Rules.{rules}
+use mathlib.Core.Path.{◌∙◌, ap₂}
 use lib.IntN.{ℤ}
 use mir.Facts.{to_z-of_z}
 use Rattle.eisenstein.specs.Values.{value}

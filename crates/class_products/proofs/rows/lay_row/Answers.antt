@@ -1,12 +1,11 @@
 -- `lay_row` meets its contract. The loop's invariant: the row is laid out as far as it was walked.
-use mathlib.Core.Path.{◌≡◌, ◌∙◌, ap, subst}
+use mathlib.Core.Path.{◌≡◌, ◌∙◌, ap}
 use mathlib.Core.List.{List, []}
-use Prim.Native.Nat.{ℕ, ◌+◌, ◌-◌, ◌≤◌, ◌<◌}
+use Prim.Native.Nat.{ℕ}
 use native.Mathlib.Omega.{arith}
-use lib.ListN.{length, get_or}
+use lib.ListN.{get_or}
 use Rattle.classes.specs.Classes.{product, products}
-use Rattle.class_products.specs.Steps.{Laid}
-use Rattle.class_products.proofs.Laying.{laid_none, laid_next}
+use Rattle.class_products.proofs.Laying.{laid_next}
 use Rattle.class_products.proofs.rows.lay_row.Goals as goal
 
 -- an entry of the table is a product
@@ -15,5 +14,5 @@ unfolding product
 entry table i j e = ap (λ (t : List (List ℕ)). get_or (get_or t i []) j 0) e
 
 pub loop-k-preserved : goal.loop-k-preserved
-loop-k-preserved c = let taken = c.loop-k-test.true in
-    (omega (arith, taken), laid_next c.loop-k.invariant.1 (omega (arith, c.requires.n_bound, taken, c.loop-k.invariant.1.long)) (entry c.products-table.result c.args.c (get_or c.args.classes.now c.loop-k.k 0) c.products-table.ensures))
+loop-k-preserved c =
+    laid_next c.loop-k.invariant (omega (arith, c.requires.classes_bound, c.loop-k.invariant.long)) (entry c.products-table.result c.args.c c.from.result c.products-table.ensures ∙ ap (product c.args.c) c.from.ensures)

@@ -1,8 +1,6 @@
 -- `lay_rows` meets its contract.
 use mathlib.Core.Path.{◌∙◌}
-use native.Mathlib.Omega.{arith}
-use borrow.Author.Rules.{rules}
-use lib.ListN.{get_or}
+use lib.ListN.{length, get_or}
 use Rattle.class_products.proofs.Laying.{rows_laid}
 use Rattle.class_products.proofs.rows.lay_rows.Goals as goal
 
@@ -10,4 +8,4 @@ pub returns : goal.returns
 returns c = let h = c.lay_twice.ensures in
     let g = c.lay_twice-2.ensures in
     let f = c.lay_twice-3.ensures in
-    (f.long ∙ g.long ∙ h.long, rows_laid c.args.n (λ k. get_or c.args.classes.now k 0) h g f)
+    (f.long ∙ g.long ∙ h.long, rows_laid (length c.args.classes.now) (λ k. get_or c.args.classes.now k 0) h g f)

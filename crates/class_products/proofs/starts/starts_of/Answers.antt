@@ -22,19 +22,21 @@ most : (n c j : ℕ) {rows : List ℕ} → n ≤ 1024 → rows ≡ row_starts n 
 most n c j p e = omega (arith, row_start_most n c, begins n c e)
 
 pub loop-j-init : goal.loop-j-init
-loop-j-init c = (omega arith, omega arith, refl, starts_none c.args.n (class (goal.at.loop-j-init c).Start) c.args.starts.now)
+loop-j-init c = (omega arith, refl, starts_none (length c.args.classes.now) (class (goal.at.loop-j-init c).Start) c.args.starts.now)
 
 pub loop-j-preserved : goal.loop-j-preserved
-loop-j-preserved c = let n = c.args.n in
-    let k = class (goal.at.loop-j-preserved c).Start c.loop-j.j in
-    let taken = c.loop-j-test.true in
-    let v : ℕ = get_or c.row_starts-rows.result k 0 + (n - c.loop-j.j) in
+loop-j-preserved c =
+    let n : ℕ = length c.args.classes.now in
+    let x = class (goal.at.loop-j-preserved c).Start in
+    let j : ℕ = c.loop-j.j in
+    let k : ℕ = c.from-c.result in
+    let v : ℕ = get_or c.row_starts-rows.result k 0 + (n - j) in
     let listed = set c.loop-j.starts c.loop-j.count v in
-    let kept = starts_kept n (class (goal.at.loop-j-preserved c).Start) c.loop-j.starts v c.loop-j.invariant.3 in
-    let long = length-set c.loop-j.starts c.loop-j.count v ∙ c.loop-j.invariant.2 in
-    let room : c.loop-j.count < length c.loop-j.starts = omega (arith, taken, c.loop-j.invariant.1, c.loop-j.invariant.2, c.requires.2) in
-    let written = get_or-set_same c.loop-j.starts c.loop-j.count v 0 room ∙ ap (λ (b : ℕ). b + (n - c.loop-j.j)) (begins n k c.row_starts-rows.ensures) in
+    let kept = starts_kept n x c.loop-j.starts v c.loop-j.invariant.2 in
+    let long = length-set c.loop-j.starts c.loop-j.count v ∙ c.loop-j.invariant.1 in
+    let room : c.loop-j.count < length c.loop-j.starts = omega (arith, c.loop-j.invariant.0, c.loop-j.invariant.1, c.requires.1) in
+    let written = get_or-set_same c.loop-j.starts c.loop-j.count v 0 room ∙ ap (λ (b : ℕ). b + (n - j)) (begins n k c.row_starts-rows.ensures ∙ ap (row_start n) c.from-c.ensures) in
     elim c.if-c-ne0.branch [
-      | then-c-ne0 w ↦ (omega (arith, taken), omega (arith, w.count-is, c.loop-j.invariant.1), long, subst (Starts n (c.loop-j.j + 1) (class (goal.at.loop-j-preserved c).Start) listed) (sym w.count-is) (starts_more n (class (goal.at.loop-j-preserved c).Start) listed taken kept written w.if-c-ne0.true))
-      | else-c-ne0 w ↦ (omega (arith, taken), omega (arith, w.count-is, c.loop-j.invariant.1), long, subst (Starts n (c.loop-j.j + 1) (class (goal.at.loop-j-preserved c).Start) listed) (sym w.count-is) (starts_same n (class (goal.at.loop-j-preserved c).Start) listed kept w.if-c-ne0.false))
+      | then-c-ne0 w ↦ (omega (arith, w.count-is, c.loop-j.invariant.0), long, subst (Starts n (j + 1) x listed) (sym w.count-is) (starts_more n x listed (omega arith) kept written (λ e. w.if-c-ne0.true (c.from-c.ensures ∙ e))))
+      | else-c-ne0 w ↦ (omega (arith, w.count-is, c.loop-j.invariant.0), long, subst (Starts n (j + 1) x listed) (sym w.count-is) (starts_same n x listed kept (sym c.from-c.ensures ∙ w.if-c-ne0.false)))
     ]

@@ -1,17 +1,16 @@
 -- `write_remainders` meets its contract. The loop's invariant: the values so far are written.
 use mathlib.Core.Path.{◌≡◌, refl, sym, ◌∙◌, ap}
 use mathlib.Core.List.{List, map}
-use Prim.Native.Nat.{ℕ, ◌+◌, ◌-◌, ◌*◌, ◌%◌, ◌≤◌, ◌<◌}
+use Prim.Native.Nat.{ℕ, ◌+◌, ◌*◌, ◌<◌}
 use native.Mathlib.Omega.{arith}
 use borrow.Author.Rules.{rules}
 use lib.IntN.{pos}
-use lib.ListN.{length, get_or, length-set, get_or-map}
+use lib.ListN.{length, get_or, get_or-map}
 use mir.Syntax.{w32}
 use Rattle.eisenstein.specs.Values.{ℤ[ω], 𝟘}
 use Rattle.eisenstein.specs.declared.Pair.{Pair}
 use Rattle.eisenstein.proofs.Pairs.{pair_read}
-use Rattle.polynomials.specs.Polynomials.{coefficient}
-use Rattle.arrays.proofs.Changing.{Changed, changed_none, stored_next, stored_all}
+use Rattle.arrays.proofs.Changing.{stored_next, stored_all}
 use Rattle.classes.specs.Classes.{remainders, remainder_of}
 use Rattle.classes.specs.Pairs.{value_of}
 use Rattle.class_products.proofs.sums.write_remainders.Goals as goal
@@ -23,10 +22,10 @@ read values k e = sym (get_or-map value_of values k (record { a = pos 0; b = pos
 
 pub loop-i-preserved : goal.loop-i-preserved
 loop-i-preserved c =
-    let inside : 2 * c.loop-i.i + 1 < length c.loop-i.out = omega (arith, c.loop-i-test.true, c.loop-i.invariant.1.long, c.requires) in
+    let inside : 2 * c.loop-i.i + 1 < length c.loop-i.out = omega (arith, c.loop-i.invariant.long, c.requires) in
     let r = c.remainders-values in
-    let k = get_or c.args.sums.now c.loop-i.i 0 % 4 in
-    (omega (arith, c.loop-i-test.true), stored_next c.loop-i.invariant.1 refl inside (pair_read {w = w32} {a = (get_or r.result k (record { a = pos 0; b = pos 0 })).a} {b = (get_or r.result k (record { a = pos 0; b = pos 0 })).b} (search rules) (search rules) ∙ read r.result k r.ensures))
+    let k : ℕ = c.from.result in
+    stored_next c.loop-i.invariant refl inside (pair_read {w = w32} {a = (get_or r.result k (record { a = pos 0; b = pos 0 })).a} {b = (get_or r.result k (record { a = pos 0; b = pos 0 })).b} (search rules) (search rules) ∙ read r.result k r.ensures ∙ ap remainder_of c.from.ensures)
 
 pub returns : goal.returns
-returns c = stored_all c.args.n c.loop-i.invariant.1 c.requires.2 (omega (arith, c.loop-i-test.false))
+returns c = stored_all c.args.n c.loop-i.invariant c.requires.2 (omega arith)

@@ -4,7 +4,6 @@ use mathlib.Core.Bool.{true}
 use mathlib.Core.List.{◌++◌}
 use Prim.Native.Nat.{ℕ, ◌*◌}
 use native.Mathlib.Omega.{arith}
-use borrow.Author.Rules.{rules}
 use lib.IntN.{nat_abs}
 use lib.ListN.{length}
 use Rattle.eisenstein.specs.Values.{◌*ω◌}
@@ -26,16 +25,13 @@ add_units-requires c =
     let can : repeatable y (length c.args.twice.now) ≡ true = repeatable_holds y (length c.args.twice.now) (omega (arith, a.y_long, a.N_small)) (omega (arith, a.y_long, c.requires.1)) a.y_small in
     subst (Twice y) (sym (was_formed (y ++ y) c.args.twice.now can c.lay_out_twice.ensures).1) (twice_joined y) in
     let a = c.requires.0 in record {
-      x_len = (a.x_long, a.units, c.requires.3);
+      x_len = (a.x_long, a.units, c.requires.2, c.requires.3);
       zeros = (
         c.clear.ensures.1,
         record {
           N_small = a.N_small;
           long = c.clear.ensures.0 ∙ a.out_long;
           twice_long = laid_out.long ∙ ap (λ (k : ℕ). 2 * k) a.y_long;
-          few = omega arith;
-          places_long = c.requires.2;
-          below = λ m p. absurd (omega arith);
           sums_below = λ k. omega (arith, ap nat_abs (c.clear.ensures.1 k));
           twice_below = twice_below laid_out a.y_small;
         },

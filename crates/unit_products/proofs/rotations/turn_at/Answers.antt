@@ -2,7 +2,6 @@
 use mathlib.Core.Path.{◌∙◌, ap₂}
 use mathlib.Core.List.{List, [], ◌∷◌}
 use Prim.Native.Nat.{ℕ, ◌+◌, ◌*◌, ◌^◌}
-use borrow.Author.Rules.{rules}
 use lib.IntN.{ℤ, pos}
 use lib.ListN.{get_or, set}
 use mir.Syntax.{w32}
