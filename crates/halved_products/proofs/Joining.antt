@@ -30,6 +30,9 @@ num l k = get_or l k (pos 0)
 pub size_first : (n h : ℕ) (a b : List ℤ) → h ≤ n → Subtracted (4 * n) 0 (4 * h) a b → ((k : ℕ) → k < 4 * n + 4 * h → nat_abs (num a k) ≤ 2 ^ 59) → (k : ℕ) → k < 4 * h → nat_abs (num b (4 * n + k)) ≤ 2 ^ 61
 size_first n h a b p s v k l = subst (λ (z : ℤ). nat_abs z ≤ 2 ^ 61) (sym (s.new k l)) (le_trans (natAbs-- (num a (4 * n + k)) (num a (0 + k))) (omega (arith, v (4 * n + k) (omega arith), v (0 + k) (omega arith))))
 
+pub size_last : (n h : ℕ) (a b : List ℤ) → h ≤ n → n ≤ 2 * h → Subtracted (4 * n) 0 (4 * h) a b → ((k : ℕ) → k < 4 * n + 4 * h → nat_abs (num a k) ≤ 2 ^ 59) → (k : ℕ) → k < 4 * (n - h) → nat_abs (num b (4 * h + k)) ≤ 2 ^ 61
+size_last n h a b p q s v k l = subst (λ (z : ℤ). nat_abs z ≤ 2 ^ 61) (sym (s.below (4 * h + k) (omega arith))) (le_trans (v (4 * h + k) (omega arith)) (omega arith))
+
 module _ (n h : ℕ) (a b c : List ℤ) (p : h ≤ n) (q : n ≤ 2 * h) (r : 3 * h ≤ 2 * n) (s : Subtracted (4 * n) 0 (4 * h) a b) (t : Subtracted (4 * n) (4 * h) (4 * (n - h)) b c) where
   -- the places before 2n, after one and after two steps
   pub first : (k : ℕ) → k < 4 * n → num b k ≡ num a k

@@ -41,16 +41,12 @@ fn dot(x: &[i32], y: &[i32], from: usize, to: usize, base: usize) -> Wide
     ensures { (value result.a result.b ≡ sum (to - from) (λ j. coefficient x.now (from + j) *ω coefficient y.now (base - (from + j))))
         × (nat_abs result.a ≤ (to - from) * 2 ^ 49) × (nat_abs result.b ≤ (to - from) * 2 ^ 49) }
 {
-    let mut a: i64 = 0;
-    let mut b: i64 = 0;
-    let mut j = from;
-    while j < to {
+    let mut a = 0;
+    let mut b = 0;
+    for j in from..to {
         let p = product(x, y, j, base - j);
-        let pa = p.a;
-        let pb = p.b;
-        a += pa;
-        b += pb;
-        j += 1;
+        a += p.a;
+        b += p.b;
     }
     Wide { a, b }
 }
@@ -63,7 +59,8 @@ pub(crate) fn product_at(x: &[i32], y: &[i32], n: usize, i: usize) -> Wide
     ensures { (value result.a result.b ≡ product (coefficient x.now) (coefficient y.now) i) × (nat_abs result.a ≤ 2 ^ 53) × (nat_abs result.b ≤ 2 ^ 53) }
 {
     if i < n {
-        return dot(x, y, 0, i + 1, i);
+        dot(x, y, 0, i + 1, i)
+    } else {
+        dot(x, y, i + 1 - n, n, i)
     }
-    dot(x, y, i + 1 - n, n, i)
 }

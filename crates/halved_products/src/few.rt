@@ -19,13 +19,9 @@ fn few_wrapped_at(x: &[i32], y: &[i32], n: usize, i: usize) -> Wide
 {
     let early = product_at(x, y, n, i);
     let later = product_at(x, y, n, n + i);
-    let ea = early.a;
-    let eb = early.b;
-    let la = later.a;
-    let lb = later.b;
     Wide {
-        a: ea + la,
-        b: eb + lb,
+        a: early.a + later.a,
+        b: early.b + later.b,
     }
 }
 
@@ -37,10 +33,8 @@ pub(crate) fn convolve_few(x: &[i32], y: &[i32], n: usize, c: i32, d: i32, out: 
     if n > 16 {
         return false;
     }
-    let mut k = 0;
-    while k < n {
+    for k in 0..n {
         store_remainder(out, k, few_wrapped_at(x, y, n, k), c, d);
-        k += 1;
     }
     true
 }

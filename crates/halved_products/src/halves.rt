@@ -4,71 +4,21 @@ ghost use Rattle.polynomials.specs.Polynomials.{coefficient};
 ghost use Rattle.arrays.specs.Arrays.{AllWithin};
 ghost use Rattle.halving.specs.Products.{product};
 ghost use Rattle.halved_products.specs.Conditions.{Factors, Halvable};
-ghost use Rattle.halved_products.specs.Steps.{Added, Subtracted, joined_in};
+ghost use Rattle.halved_products.specs.Steps.{Apart, Combined, joined_in};
 
 use crate::direct::product_at;
-use eisenstein::Wide;
+use std::ops::{Add, Sub};
 
-// x_(to + k) += x_(from + k) for each k below count.
-fn add_numbers(x: &mut [i32], to: usize, from: usize, count: usize)
-    requires to_le_from { (to ≤ from) × (from + count ≤ length x.old) × (length x.old ≤ 2 ^ 16) }
-    requires all_within { AllWithin (2 ^ 29) x.old }
-    ensures { Added to from count x.old x.new }
+// x_(to + k) becomes op(x_(to + k), x_(from + k)) for each k below count. The two parts are apart.
+fn combine<T: Copy, F: Fn(T, T) -> T>(x: &mut [T], to: usize, from: usize, count: usize, op: F)
+    requires inside { (to + count ≤ length x.old) × (from + count ≤ length x.old) × (length x.old ≤ 2 ^ 16) }
+    requires apart { Apart to from count }
+    requires callable { (d : T) (k : ℕ) → k < count → F.pre op (get_or x.old (to + k) d) (get_or x.old (from + k) d) }
+    ensures { Combined (F.post op) to from x.old x.new count }
 {
-    let mut k = 0;
-    while k < count {
-        x[to + k] += x[from + k];
-        k += 1;
+    for k in 0..count {
+        x[to + k] = op(x[to + k], x[from + k]);
     }
-}
-
-// x_(to + k) -= x_(from + k) for each k below count.
-fn subtract_numbers(x: &mut [i32], to: usize, from: usize, count: usize)
-    requires to_le_from { (to ≤ from) × (from + count ≤ length x.old) × (length x.old ≤ 2 ^ 16) }
-    requires all_within { AllWithin (2 ^ 29) x.old }
-    ensures { Subtracted to from count x.old x.new }
-{
-    let mut k = 0;
-    while k < count {
-        x[to + k] -= x[from + k];
-        k += 1;
-    }
-}
-
-// The same of sums of products.
-fn add_sums(w: &mut [i64], to: usize, from: usize, count: usize)
-    requires to_le_from { (to ≤ from) × (from + count ≤ length w.old) × (length w.old ≤ 2 ^ 16) }
-    requires by_index { (k : ℕ) → k < count → (nat_abs (get_or w.old (to + k) (pos 0)) ≤ 2 ^ 61) × (nat_abs (get_or w.old (from + k) (pos 0)) ≤ 2 ^ 61) }
-    ensures { Added to from count w.old w.new }
-{
-    let mut k = 0;
-    while k < count {
-        w[to + k] += w[from + k];
-        k += 1;
-    }
-}
-
-fn subtract_sums(w: &mut [i64], to: usize, from: usize, count: usize)
-    requires count_bound { (from + count ≤ to) × (to + count ≤ length w.old) × (length w.old ≤ 2 ^ 16) }
-    requires by_index { (k : ℕ) → k < count → (nat_abs (get_or w.old (to + k) (pos 0)) ≤ 2 ^ 61) × (nat_abs (get_or w.old (from + k) (pos 0)) ≤ 2 ^ 61) }
-    ensures { Subtracted to from count w.old w.new }
-{
-    let mut k = 0;
-    while k < count {
-        w[to + k] -= w[from + k];
-        k += 1;
-    }
-}
-
-// Stores coefficient i.
-fn store(w: &mut [i64], i: usize, v: Wide)
-    requires { (i < 1024) × (2 * i + 1 < length w.old) }
-    ensures { w.new ≡ set (set w.old (2 * i) v.a) (2 * i + 1) v.b }
-{
-    let a = v.a;
-    let b = v.b;
-    w[2 * i] = a;
-    w[2 * i + 1] = b;
 }
 
 // The product of two arrays of at most 16 coefficients, by direct sums.
@@ -78,10 +28,10 @@ fn multiply_few(x: &[i32], y: &[i32], n: usize, w: &mut [i64])
     requires all_within_2 { AllWithin (2 ^ 23) y.now }
     ensures { (i : ℕ) → i < 2 * n → coefficient w.new i ≡ product (coefficient x.now) (coefficient y.now) i }
 {
-    let mut i = 0;
-    while i < 2 * n {
-        store(w, i, product_at(x, y, n, i));
-        i += 1;
+    for i in 0..2 * n {
+        let v = product_at(x, y, n, i);
+        w[2 * i] = v.a;
+        w[2 * i + 1] = v.b;
     }
 }
 
@@ -91,9 +41,9 @@ fn join(w: &mut [i64], n: usize, h: usize)
     requires by_index { (k : ℕ) → k < 4 * n + 4 * h → nat_abs (get_or w.old k (pos 0)) ≤ 2 ^ 59 }
     ensures { (i : ℕ) → i < 2 * n → coefficient w.new i ≡ joined_in n h (coefficient w.old) i }
 {
-    subtract_sums(w, 4 * n, 0, 4 * h);
-    subtract_sums(w, 4 * n, 4 * h, 4 * (n - h));
-    add_sums(w, 2 * h, 4 * n, 4 * h);
+    combine(w, 4 * n, 0, 4 * h, i64::sub);
+    combine(w, 4 * n, 4 * h, 4 * (n - h), i64::sub);
+    combine(w, 2 * h, 4 * n, 4 * h, i64::add);
 }
 
 // The product of two arrays of n coefficients: 2n coefficients at the start of w. Behind them w is room for the smaller products.
@@ -117,10 +67,10 @@ pub(crate) fn multiply(x: &mut [i32], y: &mut [i32], n: usize, w: &mut [i64])
     let inner = 2 * (2 * n);
     multiply(&mut x[..half], &mut y[..half], h, w);
     multiply(&mut x[half..], &mut y[half..], m, &mut w[outer..]);
-    add_numbers(x, 0, half, rest);
-    add_numbers(y, 0, half, rest);
+    combine(x, 0, half, rest, i32::add);
+    combine(y, 0, half, rest, i32::add);
     multiply(&mut x[..half], &mut y[..half], h, &mut w[inner..]);
-    subtract_numbers(x, 0, half, rest);
-    subtract_numbers(y, 0, half, rest);
+    combine(x, 0, half, rest, i32::sub);
+    combine(y, 0, half, rest, i32::sub);
     join(w, n, h);
 }

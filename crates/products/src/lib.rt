@@ -14,6 +14,9 @@ ghost use Rattle.products.specs.Products.{usable};
 mod checks;
 mod reductions;
 
+use crate::reductions::reduce_all;
+use eisenstein::remainder_2;
+use remainders::remainder_q;
 use unit_products::multiply_units;
 
 // x × y modulo q = (c, d), to out, where x is of zeros and units. Answers whether it was formed; nothing is written otherwise.
@@ -28,13 +31,10 @@ pub fn multiply_units_modulo_q(
     ensures { Forms (multipliable n x.now y.now (length out.old) && usable (value c d))
         (array n (λ i. mod_q (value c d) (convolution n (coefficient x.now) (coefficient y.now) i))) result out.old out.new }
 {
-    if !checks::usable(c, d) {
+    if !checks::usable(c, d) || !multiply_units(n, x, y, out) {
         return false;
     }
-    if !multiply_units(n, x, y, out) {
-        return false;
-    }
-    reductions::reduce_all_q(out, n as usize, c, d);
+    reduce_all(out, n as usize, |a, b| remainder_q(a, b, c, d));
     true
 }
 
@@ -46,6 +46,6 @@ pub fn multiply_units_modulo_2(n: u32, x: &[i32], y: &[i32], out: &mut [i32]) ->
     if !multiply_units(n, x, y, out) {
         return false;
     }
-    reductions::reduce_all_2(out, n as usize);
+    reduce_all(out, n as usize, remainder_2);
     true
 }

@@ -17,16 +17,12 @@ fn sealed_at(p: Parameters, product: &[i32], message: &[u8], i: usize) -> Pair
     requires { Passes (parameter_checks (set_of p)) × (i < p.n) }
     ensures { value result.a result.b ≡ mod_q (set_of p).q (coefficient product.now i +ω coefficient product.now i +ω packed message.now i) }
 {
-    let c = p.c;
-    let d = p.d;
     let pa = arrays::at(product, 2 * i);
     let pb = arrays::at(product, 2 * i + 1);
     let m = packing::pair_of(message, i as u32);
-    let ma = m.a;
-    let mb = m.b;
-    let a = pa + pa + ma as i64;
-    let b = pb + pb + mb as i64;
-    remainders::remainder_q(a, b, c, d)
+    let a = pa + pa + i64::from(m.a);
+    let b = pb + pb + i64::from(m.b);
+    remainders::remainder_q(a, b, p.c, p.d)
 }
 
 // Turns the product φ × h into what is sealed.
@@ -34,16 +30,10 @@ fn add_message(p: Parameters, message: &[u8], e: &mut [i32])
     requires { Passes (parameter_checks (set_of p)) × (length e.old ≡ 2 * p.n) }
     ensures { e.new ≡ array p.n (λ i. mod_q (set_of p).q (coefficient e.old i +ω coefficient e.old i +ω packed message.now i)) }
 {
-    let n = p.n;
-    let end = n as usize;
-    let mut i = 0;
-    while i < end {
+    for i in 0..p.n as usize {
         let r = sealed_at(p, e, message, i);
-        let a = r.a;
-        let b = r.b;
-        e[2 * i] = a;
-        e[2 * i + 1] = b;
-        i += 1;
+        e[2 * i] = r.a;
+        e[2 * i + 1] = r.b;
     }
 }
 
@@ -51,7 +41,6 @@ pub(crate) fn seal_into(p: Parameters, h: &[i32], phi: &[i32], message: &[u8], e
     requires { Passes (parameter_checks (set_of p) ++ sealing_checks (set_of p) h.now phi.now message.now (length e.old)) }
     ensures { e.new ≡ array p.n (sealed (set_of p) (coefficient h.now) (coefficient phi.now) (packed message.now)) }
 {
-    let n = p.n;
-    unit_products::multiply_units(n, phi, h, e);
+    unit_products::multiply_units(p.n, phi, h, e);
     add_message(p, message, e);
 }

@@ -1,17 +1,15 @@
 -- `multiply_units_modulo_2` meets its contract: the product, and then each of its coefficients modulo 2.
 use mathlib.Core.Path.{◌≡◌, sym, ◌∙◌, ap}
-use mathlib.Core.Bool.{Bool, true, false}
+use mathlib.Core.Bool.{Bool, true}
 use Prim.Native.Nat.{ℕ, ◌≤◌}
 use mathlib.Core.List.{List}
-use borrow.Author.Rules.{rules}
-use borrow.Author.Tests.{not-true, not-false}
 use lib.IntN.{ℤ}
 use lib.ListN.{length}
 use Rattle.eisenstein.specs.Reduction.{mod2}
 use Rattle.polynomials.specs.Polynomials.{Polynomial, coefficient, array, convolution}
 use Rattle.polynomials.proofs.Arrays.{array_length, array_same, coefficient-array}
 use Rattle.unit_operands.specs.Operands.{multipliable}
-use Rattle.unit_operands.proofs.Operands.{operands_of, was_formed, was_not_formed, formed, not_formed}
+use Rattle.unit_operands.proofs.Operands.{operands_of, was_formed, formed}
 use Rattle.products.proofs.multiply_units_modulo_2.Goals as goal
 use Rattle.products.proofs.multiply_units_modulo_2.Goals.{Else-not-multiply_units, Start}
 
@@ -38,8 +36,8 @@ N_small c = (operands_of c.args.n c.args.x.now c.args.y.now c.args.out.now (pass
 formed-product : (c : Else-not-multiply_units) → c.multiply_units.new.out ≡ array c.args.n (product c.before.before.before.before)
 formed-product c = (was_formed _ _ (passed c) c.multiply_units.ensures).1
 
-pub reduce_all_2-requires : goal.reduce_all_2-requires
-reduce_all_2-requires c = (N_small (goal.at.reduce_all_2-requires c).Else-not-multiply_units, ap length (formed-product (goal.at.reduce_all_2-requires c).Else-not-multiply_units) ∙ array_length c.args.n (product (goal.at.reduce_all_2-requires c).Start))
+pub reduce_all-requires-clause-room : goal.reduce_all-requires-clause-room
+reduce_all-requires-clause-room c = (N_small (goal.at.reduce_all-requires-clause-room c).Else-not-multiply_units, ap length (formed-product (goal.at.reduce_all-requires-clause-room c).Else-not-multiply_units) ∙ array_length c.args.n (product (goal.at.reduce_all-requires-clause-room c).Start))
 
 pub returns : goal.returns
-returns c = formed (value_of (goal.at.returns c).Start) c.args.out.now (passed (goal.at.returns c).Else-not-multiply_units) (c.reduce_all_2.ensures ∙ reduced c.args.n (product (goal.at.returns c).Start) _ (formed-product (goal.at.returns c).Else-not-multiply_units))
+returns c = formed (value_of (goal.at.returns c).Start) c.args.out.now (passed (goal.at.returns c).Else-not-multiply_units) (c.reduce_all.ensures mod2 (λ a b r p q e. e) ∙ reduced c.args.n (product (goal.at.returns c).Start) _ (formed-product (goal.at.returns c).Else-not-multiply_units))

@@ -14,7 +14,7 @@ pub loop-j-init : goal.loop-j-init
 unfolding sum
 loop-j-init c =
     let e : 0 ≡ c.args.from - c.args.from = omega arith in
-    (omega arith, omega arith, ap (λ (k : ℕ). sum k (terms c.args.x.now c.args.y.now c.args.from c.args.base)) e, omega arith, omega arith)
+    (ap (λ (k : ℕ). sum k (terms c.args.x.now c.args.y.now c.args.from c.args.base)) e, omega arith, omega arith)
 
 pub loop-j-preserved : goal.loop-j-preserved
 unfolding sum ◌+ω◌
@@ -25,11 +25,9 @@ loop-j-preserved c =
     let few : n * 2 ^ 49 + 2 ^ 49 < 2 ^ 63 = omega arith in
     let e : c.loop-j.j + 1 - c.args.from ≡ suc n = omega arith in
     let at : c.args.from + n ≡ c.loop-j.j = omega arith in (
-      omega arith,
-      omega arith,
-      ap₂ value (sum_read w64 n (2 ^ 49) (to_z w64 c.loop-j.a-bits) r.result.a v.3 r.ensures.1 few) (sum_read w64 n (2 ^ 49) (to_z w64 c.loop-j.b-bits) r.result.b v.4 r.ensures.2 few)
-          ∙ ap₂ ◌+ω◌ v.2 (r.ensures.0 ∙ ap (λ (k : ℕ). coefficient c.args.x.now k *ω coefficient c.args.y.now (c.args.base - k)) (sym at))
+      ap₂ value (sum_read w64 n (2 ^ 49) (to_z w64 c.loop-j.a-bits) r.result.a v.1 r.ensures.1 few) (sum_read w64 n (2 ^ 49) (to_z w64 c.loop-j.b-bits) r.result.b v.2 r.ensures.2 few)
+          ∙ ap₂ ◌+ω◌ v.0 (r.ensures.0 ∙ ap (λ (k : ℕ). coefficient c.args.x.now k *ω coefficient c.args.y.now (c.args.base - k)) (sym at))
           ∙ ap (λ (k : ℕ). sum k (terms c.args.x.now c.args.y.now c.args.from c.args.base)) (sym e),
-      sum_size w64 n (2 ^ 49) (to_z w64 c.loop-j.a-bits) r.result.a v.3 r.ensures.1 few (c.loop-j.j + 1 - c.args.from) e,
-      sum_size w64 n (2 ^ 49) (to_z w64 c.loop-j.b-bits) r.result.b v.4 r.ensures.2 few (c.loop-j.j + 1 - c.args.from) e,
+      sum_size w64 n (2 ^ 49) (to_z w64 c.loop-j.a-bits) r.result.a v.1 r.ensures.1 few (c.loop-j.j + 1 - c.args.from) e,
+      sum_size w64 n (2 ^ 49) (to_z w64 c.loop-j.b-bits) r.result.b v.2 r.ensures.2 few (c.loop-j.j + 1 - c.args.from) e,
     )

@@ -12,7 +12,4 @@ terms x y from base j = coefficient x (from + j) *ω coefficient y (base - (from
 
 abbrev pub invariant-loop-j : goal.invariant-loop-j
 invariant-loop-j l =
-    (l.from ≤ l.j) × (l.j ≤ l.to) × (value l.a l.b ≡ sum (l.j - l.from) (terms l.x l.y l.from l.base)) × (nat_abs l.a ≤ (l.j - l.from) * 2 ^ 49) × (nat_abs l.b ≤ (l.j - l.from) * 2 ^ 49)
-
-abbrev pub decreases-loop-j : goal.decreases-loop-j
-decreases-loop-j l = l.to - l.j
+    (value l.a l.b ≡ sum (l.j - l.from) (terms l.x l.y l.from l.base)) × (nat_abs l.a ≤ (l.j - l.from) * 2 ^ 49) × (nat_abs l.b ≤ (l.j - l.from) * 2 ^ 49)

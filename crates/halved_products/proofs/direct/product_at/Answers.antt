@@ -27,7 +27,7 @@ returns-then-i-n c =
     let e = c.dot.ensures in
     (early c.args.n c.args.x.now c.args.y.now c.args.i e.0, few (c.args.i + 1 - 0) c.args.n _ c.requires.n_bound.0 (omega arith) e.1, few (c.args.i + 1 - 0) c.args.n _ c.requires.n_bound.0 (omega arith) e.2)
 
-pub returns : goal.returns
-returns c =
-    let e = c.dot-2.ensures in
+pub returns-else-i-n : goal.returns-else-i-n
+returns-else-i-n c =
+    let e = c.dot-else-i-n.ensures in
     (late c.args.n c.args.x.now c.args.y.now c.args.i c.requires.n_bound.2 c.requires.n_bound.3 (omega arith) c.requires.n_bound.1 e.0, few (c.args.n - (c.args.i + 1 - c.args.n)) c.args.n _ c.requires.n_bound.0 (omega arith) e.1, few (c.args.n - (c.args.i + 1 - c.args.n)) c.args.n _ c.requires.n_bound.0 (omega arith) e.2)

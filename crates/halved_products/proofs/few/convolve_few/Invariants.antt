@@ -1,5 +1,4 @@
 -- `convolve_few` meets its contract. The loop's invariant: the coefficients that are stored are right.
-use Prim.Native.Nat.{◌-◌, ◌≤◌}
 use Rattle.eisenstein.specs.Values.{value}
 use Rattle.eisenstein.specs.Reduction.{mod_q}
 use Rattle.polynomials.specs.Polynomials.{coefficient, convolution}
@@ -7,7 +6,4 @@ use Rattle.arrays.proofs.Changing.{Changed}
 use Rattle.halved_products.proofs.few.convolve_few.Given as goal
 
 abbrev pub invariant-loop-k : goal.invariant-loop-k
-invariant-loop-k l = (l.k ≤ l.n) × Changed coefficient (λ i. mod_q (value l.c l.d) (convolution l.n (coefficient l.x) (coefficient l.y) i)) l.initial.out l.out l.k
-
-abbrev pub decreases-loop-k : goal.decreases-loop-k
-decreases-loop-k l = l.n - l.k
+invariant-loop-k l = Changed coefficient (λ i. mod_q (value l.c l.d) (convolution l.n (coefficient l.x) (coefficient l.y) i)) l.initial.out l.out l.k

@@ -1,5 +1,5 @@
 -- `multiply` meets its contract. Its measure is the length, which falls with each of the three calls.
-use mathlib.Core.Path.{◌≡◌, refl, ◌∙◌, ap₂, subst}
+use mathlib.Core.Path.{◌≡◌, refl, ◌∙◌, ap, ap₂, subst}
 use mathlib.Core.List.{List, ◌++◌}
 use Prim.Native.Nat.{ℕ, ◌+◌, ◌-◌, ◌*◌, ◌/◌, ◌^◌, ◌≤◌, ◌<◌}
 use native.Mathlib.Omega.{arith}
@@ -11,8 +11,12 @@ use Rattle.polynomials.specs.Polynomials.{coefficient}
 use Rattle.halving.specs.Products.{product}
 use Rattle.halved_products.specs.Conditions.{Factors, Halvable}
 use Rattle.halved_products.specs.Steps.{Added, Subtracted}
-use Rattle.halved_products.proofs.Splitting.{front_same, mid_length, mid_is, after_two, added_from, subtracted_from, small_from, sum_bounded, sum-small, restored, Three, three}
+use Rattle.halved_products.proofs.Splitting.{front_same, mid_length, mid_is, after_two, added_from, subtracted_from, small_from, sum_bounded, sum-small, bounded_plain, restored, Three, three}
 use Rattle.halved_products.proofs.halves.+multiply.Goals as goal
+use Rattle.halved_products.proofs.halves.+multiply.Goals.{After-combine, After-combine-2}
+use Rattle.halved_products.proofs.Putting.{put_by, at_default}
+use borrow.Author.Rules.{rules}
+use native.Mathlib.Nat.{le_trans}
 
 -- ---- the lengths of a step, of which h = n − n/2 and n/2 are the halves
 
@@ -75,9 +79,18 @@ module _ (n : ℕ) where
   summed x l m a e f s =
       subst (λ (k : ℕ). Added 0 (half n) (2 * k) x a) (rest_is n) (added_from 0 (half n) (2 * (n / 2)) (after_two (half n) (front_same (half n) e) (length (Whole x l) - half n) f) s)
 
+  summand : (x l m : List ℤ) (d : ℤ) → l ≡ take (half n) x → m ≡ last_of x l → 2 ≤ n → length x ≡ 2 * n → Halvable n x → (k : ℕ) → k < 2 * n → nat_abs (get_or (Again x l m) k d) ≤ 2 ^ 29
+  summand x l m d e f z p b k q =
+      let same : Again x l m ≡ x = after_two (half n) (front_same (half n) e) (length (Whole x l) - half n) f in
+      at_default (Again x l m) k d (omega (arith, ap length same)) (small_from same (λ j. le_trans (bounded_plain x (n - 1) (omega arith) b j) (omega arith)) k)
+
   module _ (x a : List ℤ) (s : Sum x a) (l : List ℤ) (e : l ≡ take (half n) a) where
     third_small : 2 ≤ n → length x ≡ 2 * n → Halvable n x → (k : ℕ) → nat_abs (get_or (Whole a l) k (pos 0)) ≤ 2 ^ 29
     third_small z p b = small_from (front_same (half n) e) (sum-small n (n - n / 2) x p (le_half n) (half_le n) a s z b)
+
+    -- every number of it that is read is small
+    summed_small : (d : ℤ) → 2 ≤ n → length x ≡ 2 * n → Halvable n x → (k : ℕ) → k < 2 * n → nat_abs (get_or (Whole a l) k d) ≤ 2 ^ 29
+    summed_small d z p b k q = at_default (Whole a l) k d (omega (arith, ap length (front_same (half n) {x = a} e), s.long)) (third_small z p b k)
 
     taken_back : length x ≡ 2 * n → (o : List ℤ) → Subtracted 0 (half n) (2 * (n / 2)) (Whole a l) o → o ≡ x
     taken_back p o t =
@@ -132,6 +145,29 @@ three_formed n x y w x₁ y₁ w₁ x₂ y₂ w₂ a b x₃ y₃ w₃ big f bx b
 
 -- ---- the function
 
+-- the halves of an operand are added up
+added_x : {t : ℕ} (c : After-combine t) → Added 0 (half c.args.n) (2 * (c.args.n / 2)) (Again c.args.n c.args.x.now c.multiply.new.x c.multiply-2.new.x) c.combine.new.x
+added_x c =
+    let n = c.args.n in
+    let f = c.requires.factors in
+    let l = Again n c.args.x.now c.multiply.new.x c.multiply-2.new.x in
+    let bound = summand n c.args.x.now c.multiply.new.x c.multiply-2.new.x (pos 0) c.multiply.ensures.0 c.multiply-2.ensures.0 f.0 f.2 c.requires.halvable in
+    put_by c.combine.ensures (λ k v p e.
+    let low : nat_abs (get_or l (0 + k) (pos 0)) ≤ 2 ^ 29 = bound (0 + k) (omega arith) in
+    let high : nat_abs (get_or l (half n + k) (pos 0)) ≤ 2 ^ 29 = bound (half n + k) (omega arith) in
+    search rules)
+
+added_y : {t : ℕ} (c : After-combine-2 t) → Added 0 (half c.args.n) (2 * (c.args.n / 2)) (Again c.args.n c.args.y.now c.multiply.new.y c.multiply-2.new.y) c.combine-2.new.x
+added_y c =
+    let n = c.args.n in
+    let f = c.requires.factors in
+    let l = Again n c.args.y.now c.multiply.new.y c.multiply-2.new.y in
+    let bound = summand n c.args.y.now c.multiply.new.y c.multiply-2.new.y (pos 0) c.multiply.ensures.1 c.multiply-2.ensures.1 f.0 f.3 c.requires.halvable_2 in
+    put_by c.combine-2.ensures (λ k v p e.
+    let low : nat_abs (get_or l (0 + k) (pos 0)) ≤ 2 ^ 29 = bound (0 + k) (omega arith) in
+    let high : nat_abs (get_or l (half n + k) (pos 0)) ≤ 2 ^ 29 = bound (half n + k) (omega arith) in
+    search rules)
+
 pub multiply-requires-3 : goal.multiply-requires-3
 multiply-requires-3 t c =
     let n = c.args.n in
@@ -139,10 +175,10 @@ multiply-requires-3 t c =
     let big : 16 < n = omega arith in
     let p = le_half n in
     let q = half_le n in
-    let a = c.add_numbers.new.x in
-    let b = c.add_numbers-2.new.x in
-    let sx = summed n c.args.x.now c.multiply.new.x c.multiply-2.new.x a c.multiply.ensures.0 c.multiply-2.ensures.0 c.add_numbers.ensures in
-    let sy = summed n c.args.y.now c.multiply.new.y c.multiply-2.new.y b c.multiply.ensures.1 c.multiply-2.ensures.1 c.add_numbers-2.ensures in
+    let a = c.combine.new.x in
+    let b = c.combine-2.new.x in
+    let sx = summed n c.args.x.now c.multiply.new.x c.multiply-2.new.x a c.multiply.ensures.0 c.multiply-2.ensures.0 (added_x (goal.at.multiply-requires-3 t c).After-combine) in
+    let sy = summed n c.args.y.now c.multiply.new.y c.multiply-2.new.y b c.multiply.ensures.1 c.multiply-2.ensures.1 (added_y (goal.at.multiply-requires-3 t c).After-combine-2) in
     let v = Two n c.multiply.new.w c.multiply-2.new.w in
     let e = same_room n c.multiply.new.w c.multiply-2.new.w c.multiply-2.auto.w in
     let m = mid_length (2 * (2 * n)) {x = v} refl in (
@@ -160,37 +196,76 @@ multiply-requires-3 t c =
       ),
     )
 
-pub subtract_numbers-requires-clause-all_within : goal.subtract_numbers-requires-clause-all_within
-subtract_numbers-requires-clause-all_within t c =
+pub combine-requires-clause-callable : goal.combine-requires-clause-callable
+combine-requires-clause-callable t c d k p =
     let n = c.args.n in
     let f = c.requires.factors in
-    let sx = summed n c.args.x.now c.multiply.new.x c.multiply-2.new.x c.add_numbers.new.x c.multiply.ensures.0 c.multiply-2.ensures.0 c.add_numbers.ensures in
-    third_small n c.args.x.now c.add_numbers.new.x sx c.multiply-3.new.x c.multiply-3.ensures.0 f.0 f.2 c.requires.halvable
+    let x = c.args.x.now in
+    let bound = summand n x c.multiply.new.x c.multiply-2.new.x d c.multiply.ensures.0 c.multiply-2.ensures.0 f.0 f.2 c.requires.halvable in
+    let low : nat_abs (get_or (Again n x c.multiply.new.x c.multiply-2.new.x) (0 + k) d) ≤ 2 ^ 29 = bound (0 + k) (omega arith) in
+    let high : nat_abs (get_or (Again n x c.multiply.new.x c.multiply-2.new.x) (half n + k) d) ≤ 2 ^ 29 = bound (half n + k) (omega arith) in
+    search rules
 
-pub subtract_numbers-requires-2-clause-all_within :
-    goal.subtract_numbers-requires-2-clause-all_within
-subtract_numbers-requires-2-clause-all_within t c =
+pub combine-requires-2-clause-callable : goal.combine-requires-2-clause-callable
+combine-requires-2-clause-callable t c d k p =
     let n = c.args.n in
     let f = c.requires.factors in
-    let sy = summed n c.args.y.now c.multiply.new.y c.multiply-2.new.y c.add_numbers-2.new.x c.multiply.ensures.1 c.multiply-2.ensures.1 c.add_numbers-2.ensures in
-    third_small n c.args.y.now c.add_numbers-2.new.x sy c.multiply-3.new.y c.multiply-3.ensures.1 f.0 f.3 c.requires.halvable_2
+    let y = c.args.y.now in
+    let bound = summand n y c.multiply.new.y c.multiply-2.new.y d c.multiply.ensures.1 c.multiply-2.ensures.1 f.0 f.3 c.requires.halvable_2 in
+    let low : nat_abs (get_or (Again n y c.multiply.new.y c.multiply-2.new.y) (0 + k) d) ≤ 2 ^ 29 = bound (0 + k) (omega arith) in
+    let high : nat_abs (get_or (Again n y c.multiply.new.y c.multiply-2.new.y) (half n + k) d) ≤ 2 ^ 29 = bound (half n + k) (omega arith) in
+    search rules
+
+pub combine-requires-3-clause-callable : goal.combine-requires-3-clause-callable
+combine-requires-3-clause-callable t c d k p =
+    let n = c.args.n in
+    let f = c.requires.factors in
+    let x = c.args.x.now in
+    let a = c.combine.new.x in
+    let sx = summed n x c.multiply.new.x c.multiply-2.new.x a c.multiply.ensures.0 c.multiply-2.ensures.0 (added_x (goal.at.combine-requires-3-clause-callable t c).After-combine) in
+    let bound = summed_small n x a sx c.multiply-3.new.x c.multiply-3.ensures.0 d f.0 f.2 c.requires.halvable in
+    let low : nat_abs (get_or (Whole n a c.multiply-3.new.x) (0 + k) d) ≤ 2 ^ 29 = bound (0 + k) (omega arith) in
+    let high : nat_abs (get_or (Whole n a c.multiply-3.new.x) (half n + k) d) ≤ 2 ^ 29 = bound (half n + k) (omega arith) in
+    search rules
+
+pub combine-requires-4-clause-callable : goal.combine-requires-4-clause-callable
+combine-requires-4-clause-callable t c d k p =
+    let n = c.args.n in
+    let f = c.requires.factors in
+    let y = c.args.y.now in
+    let b = c.combine-2.new.x in
+    let sy = summed n y c.multiply.new.y c.multiply-2.new.y b c.multiply.ensures.1 c.multiply-2.ensures.1 (added_y (goal.at.combine-requires-4-clause-callable t c).After-combine-2) in
+    let bound = summed_small n y b sy c.multiply-3.new.y c.multiply-3.ensures.1 d f.0 f.3 c.requires.halvable_2 in
+    let low : nat_abs (get_or (Whole n b c.multiply-3.new.y) (0 + k) d) ≤ 2 ^ 29 = bound (0 + k) (omega arith) in
+    let high : nat_abs (get_or (Whole n b c.multiply-3.new.y) (half n + k) d) ≤ 2 ^ 29 = bound (half n + k) (omega arith) in
+    search rules
 
 pub join-requires-clause-by_index : goal.join-requires-clause-by_index
 join-requires-clause-by_index t c =
-    (three_formed c.args.n c.args.x.now c.args.y.now c.args.w.now c.multiply.new.x c.multiply.new.y c.multiply.new.w c.multiply-2.new.x c.multiply-2.new.y c.multiply-2.new.w c.add_numbers.new.x c.add_numbers-2.new.x c.multiply-3.new.x c.multiply-3.new.y c.multiply-3.new.w
-    (omega arith) c.requires.factors c.requires.halvable c.requires.halvable_2 c.multiply.ensures c.multiply.auto.w c.multiply-2.ensures c.multiply-2.auto.w c.add_numbers.ensures c.add_numbers-2.ensures c.multiply-3.ensures c.multiply-3.auto.w).small
+    (three_formed c.args.n c.args.x.now c.args.y.now c.args.w.now c.multiply.new.x c.multiply.new.y c.multiply.new.w c.multiply-2.new.x c.multiply-2.new.y c.multiply-2.new.w c.combine.new.x c.combine-2.new.x c.multiply-3.new.x c.multiply-3.new.y c.multiply-3.new.w
+    (omega arith) c.requires.factors c.requires.halvable c.requires.halvable_2 c.multiply.ensures c.multiply.auto.w c.multiply-2.ensures c.multiply-2.auto.w (added_x (goal.at.join-requires-clause-by_index t c).After-combine) (added_y (goal.at.join-requires-clause-by_index t c).After-combine-2) c.multiply-3.ensures c.multiply-3.auto.w).small
 
 pub returns : goal.returns
 returns t c =
     let n = c.args.n in
     let f = c.requires.factors in
-    let sx = summed n c.args.x.now c.multiply.new.x c.multiply-2.new.x c.add_numbers.new.x c.multiply.ensures.0 c.multiply-2.ensures.0 c.add_numbers.ensures in
-    let sy = summed n c.args.y.now c.multiply.new.y c.multiply-2.new.y c.add_numbers-2.new.x c.multiply.ensures.1 c.multiply-2.ensures.1 c.add_numbers-2.ensures in (
-      taken_back n c.args.x.now c.add_numbers.new.x sx c.multiply-3.new.x c.multiply-3.ensures.0 f.2 c.subtract_numbers.new.x c.subtract_numbers.ensures,
-      taken_back n c.args.y.now c.add_numbers-2.new.x sy c.multiply-3.new.y c.multiply-3.ensures.1 f.3 c.subtract_numbers-2.new.x c.subtract_numbers-2.ensures,
+    let sx = summed n c.args.x.now c.multiply.new.x c.multiply-2.new.x c.combine.new.x c.multiply.ensures.0 c.multiply-2.ensures.0 (added_x (goal.at.returns t c).After-combine) in
+    let sy = summed n c.args.y.now c.multiply.new.y c.multiply-2.new.y c.combine-2.new.x c.multiply.ensures.1 c.multiply-2.ensures.1 (added_y (goal.at.returns t c).After-combine-2) in
+    let taken_x : Subtracted 0 (half n) (2 * (n / 2)) (Whole n c.combine.new.x c.multiply-3.new.x) c.combine-3.new.x = put_by c.combine-3.ensures (λ k v p e.
+    let bound = summed_small n c.args.x.now c.combine.new.x sx c.multiply-3.new.x c.multiply-3.ensures.0 (pos 0) f.0 f.2 c.requires.halvable in
+    let low : nat_abs (get_or (Whole n c.combine.new.x c.multiply-3.new.x) (0 + k) (pos 0)) ≤ 2 ^ 29 = bound (0 + k) (omega arith) in
+    let high : nat_abs (get_or (Whole n c.combine.new.x c.multiply-3.new.x) (half n + k) (pos 0)) ≤ 2 ^ 29 = bound (half n + k) (omega arith) in
+    search rules) in
+    let taken_y : Subtracted 0 (half n) (2 * (n / 2)) (Whole n c.combine-2.new.x c.multiply-3.new.y) c.combine-4.new.x = put_by c.combine-4.ensures (λ k v p e.
+    let bound = summed_small n c.args.y.now c.combine-2.new.x sy c.multiply-3.new.y c.multiply-3.ensures.1 (pos 0) f.0 f.3 c.requires.halvable_2 in
+    let low : nat_abs (get_or (Whole n c.combine-2.new.x c.multiply-3.new.y) (0 + k) (pos 0)) ≤ 2 ^ 29 = bound (0 + k) (omega arith) in
+    let high : nat_abs (get_or (Whole n c.combine-2.new.x c.multiply-3.new.y) (half n + k) (pos 0)) ≤ 2 ^ 29 = bound (half n + k) (omega arith) in
+    search rules) in (
+      taken_back n c.args.x.now c.combine.new.x sx c.multiply-3.new.x c.multiply-3.ensures.0 f.2 c.combine-3.new.x taken_x,
+      taken_back n c.args.y.now c.combine-2.new.x sy c.multiply-3.new.y c.multiply-3.ensures.1 f.3 c.combine-4.new.x taken_y,
       λ i l.
           c.join.ensures i l
-          ∙ (three_formed c.args.n c.args.x.now c.args.y.now c.args.w.now c.multiply.new.x c.multiply.new.y c.multiply.new.w c.multiply-2.new.x c.multiply-2.new.y c.multiply-2.new.w c.add_numbers.new.x c.add_numbers-2.new.x c.multiply-3.new.x c.multiply-3.new.y c.multiply-3.new.w
-          (omega arith) c.requires.factors c.requires.halvable c.requires.halvable_2 c.multiply.ensures c.multiply.auto.w c.multiply-2.ensures c.multiply-2.auto.w c.add_numbers.ensures c.add_numbers-2.ensures c.multiply-3.ensures c.multiply-3.auto.w).join
+          ∙ (three_formed c.args.n c.args.x.now c.args.y.now c.args.w.now c.multiply.new.x c.multiply.new.y c.multiply.new.w c.multiply-2.new.x c.multiply-2.new.y c.multiply-2.new.w c.combine.new.x c.combine-2.new.x c.multiply-3.new.x c.multiply-3.new.y c.multiply-3.new.w
+          (omega arith) c.requires.factors c.requires.halvable c.requires.halvable_2 c.multiply.ensures c.multiply.auto.w c.multiply-2.ensures c.multiply-2.auto.w (added_x (goal.at.returns t c).After-combine) (added_y (goal.at.returns t c).After-combine-2) c.multiply-3.ensures c.multiply-3.auto.w).join
           i l,
     )

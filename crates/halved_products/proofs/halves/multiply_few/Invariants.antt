@@ -1,12 +1,8 @@
 -- `multiply_few` meets its contract.
-use Prim.Native.Nat.{◌-◌, ◌*◌, ◌≤◌}
 use Rattle.polynomials.specs.Polynomials.{coefficient}
 use Rattle.halving.specs.Products.{product}
 use Rattle.arrays.proofs.Changing.{Changed}
 use Rattle.halved_products.proofs.halves.multiply_few.Given as goal
 
 abbrev pub invariant-loop-i : goal.invariant-loop-i
-invariant-loop-i l = (l.i ≤ 2 * l.n) × Changed coefficient (product (coefficient l.x) (coefficient l.y)) l.initial.w l.w l.i
-
-abbrev pub decreases-loop-i : goal.decreases-loop-i
-decreases-loop-i l = 2 * l.n - l.i
+invariant-loop-i l = Changed coefficient (product (coefficient l.x) (coefficient l.y)) l.initial.w l.w l.i

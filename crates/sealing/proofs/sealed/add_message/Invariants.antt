@@ -1,18 +1,12 @@
 -- `add_message` meets its contract. The loop's invariant: the coefficients so far are what is sealed, the others as they came.
-use mathlib.Core.Path.{refl, ◌∙◌, ap}
 use mathlib.Core.List.{List}
-use Prim.Native.Nat.{ℕ, ◌+◌, ◌-◌, ◌*◌, ◌≤◌, ◌<◌}
-use native.Mathlib.Omega.{arith}
-use borrow.Author.Rules.{rules}
+use Prim.Native.Nat.{ℕ}
 use lib.IntN.{ℤ}
-use lib.ListN.{length, length-set}
-use mir.Syntax.{w32}
 use Rattle.eisenstein.specs.Values.{ℤ[ω], ◌+ω◌}
 use Rattle.eisenstein.specs.Reduction.{mod_q}
-use Rattle.eisenstein.proofs.Pairs.{pair_read}
 use Rattle.parameters.specs.Sets.{set_of}
 use Rattle.polynomials.specs.Polynomials.{Polynomial, coefficient}
-use Rattle.arrays.proofs.Changing.{Changed, changed_none, stored_next, stored_all}
+use Rattle.arrays.proofs.Changing.{Changed}
 use Rattle.packing.specs.Messages.{packed}
 use Rattle.sealing.proofs.sealed.add_message.Given as goal
 
@@ -21,7 +15,4 @@ abbrev pub at : ℤ[ω] → List ℤ → List ℕ → Polynomial
 at q e message i = mod_q q (coefficient e i +ω coefficient e i +ω packed message i)
 
 abbrev pub invariant-loop-i : goal.invariant-loop-i
-invariant-loop-i l = (l.i ≤ l.p.n) × Changed coefficient (at (set_of l.p).q l.initial.e l.message) l.initial.e l.e l.i
-
-abbrev pub decreases-loop-i : goal.decreases-loop-i
-decreases-loop-i l = l.p.n - l.i
+invariant-loop-i l = Changed coefficient (at (set_of l.p).q l.initial.e l.message) l.initial.e l.e l.i

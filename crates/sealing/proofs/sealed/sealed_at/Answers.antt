@@ -11,7 +11,7 @@ use mir.Syntax.{w32, w64}
 use mir.Val.{SFits, to_z, of_z}
 use mir.Facts.{to_z-of_z}
 use Rattle.integers.proofs.Ring.{Expr, var, ◌⊕◌, eval}
-use Rattle.integers.proofs.Machine.{Leaf, given, meanings, fits, exact, size, cast_fits}
+use Rattle.integers.proofs.Machine.{Leaf, given, meanings, exact, size}
 use Rattle.refusals.specs.Outcomes.{written}
 use Rattle.eisenstein.specs.Values.{ℤ[ω], value, 𝟘, ◌+ω◌}
 use Rattle.eisenstein.specs.Reduction.{mod_q}
@@ -24,9 +24,9 @@ use Rattle.parameters.proofs.AcceptedParameters.{accepted_parameters, modulus_no
 use Rattle.polynomials.specs.Polynomials.{coefficient}
 use Rattle.sealing.proofs.sealed.sealed_at.Goals as goal
 
--- a number of 32 bits, as it is cast to 64
-abbrev cast : (z : ℤ) → SFits w32 z → Leaf
-cast z f = record { code = to_z w32 (of_z w32 z); meant = z; bound = 2 ^ 31; is = to_z-of_z f; small = nat_abs-le z f.sfits }
+-- a number of 32 bits, read as one of 64
+abbrev widened : (r z : ℤ) → SFits w32 z → r ≡ to_z w32 (of_z w32 z) → Leaf
+widened r z f e = record { code = r; meant = z; bound = 2 ^ 31; is = e ∙ to_z-of_z f; small = nat_abs-le z f.sfits }
 
 abbrev twice : Expr
 twice = var 0 ⊕ var 0
@@ -39,9 +39,9 @@ unfolding ◌+ω◌ coefficient
 returns c =
     let modulus_read : let p = c.args.p in value (to_z w32 (of_z w32 p.c)) (to_z w32 (of_z w32 p.d)) ≡ (set_of p).q = pair_read {w = w32} (search rules) (search rules) in
     let a_fits : SFits w32 c.pair_of-m.result.a = search rules in
-    let ρ_a : List Leaf = let p = c.at-pa in given p.result (2 ^ 31) p.ensures.1 ∷ cast c.pair_of-m.result.a a_fits ∷ [] in
+    let ρ_a : List Leaf = let p = c.at-pa in given p.result (2 ^ 31) p.ensures.1 ∷ widened c.from.result c.pair_of-m.result.a a_fits c.from.ensures ∷ [] in
     let b_fits : SFits w32 c.pair_of-m.result.b = search rules in
-    let ρ_b : List Leaf = let p = c.at-pb in given p.result (2 ^ 31) p.ensures.1 ∷ cast c.pair_of-m.result.b b_fits ∷ [] in
+    let ρ_b : List Leaf = let p = c.at-pb in given p.result (2 ^ 31) p.ensures.1 ∷ widened c.from-2.result c.pair_of-m.result.b b_fits c.from-2.ensures ∷ [] in
     let sum : ℤ[ω] = value (eval (meanings ρ_a) part) (eval (meanings ρ_b) part) in
     let P = set_of c.args.p in
     let a = accepted_parameters P c.requires.0 in
