@@ -18,12 +18,7 @@ fn marked_eiz(file: &[u8]) -> bool
     requires { head_length ≤ length file.now }
     ensures { result ≡ marked file.now }
 {
-    if file[0] == b'E' {
-        if file[1] == b'I' {
-            return file[2] == b'Z';
-        }
-    }
-    false
+    file.starts_with(b"EIZ")
 }
 
 fn version_one(file: &[u8]) -> bool
@@ -37,10 +32,7 @@ fn kind_wanted(kind: u32, file: &[u8]) -> bool
     requires { head_length ≤ length file.now }
     ensures { result ≡ (known_kind kind && eqb (get_or file.now 5 0) kind) }
 {
-    if known_kind(kind) {
-        return file[5] as u32 == kind;
-    }
-    false
+    known_kind(kind) && u32::from(file[5]) == kind
 }
 
 pub(crate) fn head_refusal(kind: u32, file: &[u8]) -> Result<(), Refusal>

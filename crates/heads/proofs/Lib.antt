@@ -1,4 +1,5 @@
 pub mod ArraysOfKinds
+pub mod Copied
 pub mod Handed
 pub mod Numbers
 pub mod PartsFit

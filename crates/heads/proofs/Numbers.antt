@@ -7,6 +7,7 @@ use native.Mathlib.Omega.{arith}
 use lib.Dec.{ltb, lit<}
 use lib.IntN.{ℤ, pos, negsuc, nat_abs}
 use mir.Syntax.{w16}
+use Rattle.std.specs.Int.{to_be_bytes}
 use mir.Val.{SFits, to_z, of_z, sel}
 use mir.Facts.{Fits-of_z, Fits-of_lt, Fits-lt-pow, to_z-of_z, of_z-to_z}
 use Rattle.integers.proofs.Machine.{sfits_within}
@@ -52,6 +53,11 @@ number_bytes n = omega arith
 pub bytes_number : (high low : ℕ) → low < 256 → bytes16 (number16 high low) ≡ high ∷ low ∷ []
 unfolding bytes16 number16
 bytes_number high low h = ap₂ (λ (x y : ℕ). x ∷ y ∷ []) (omega arith) (omega arith)
+
+-- the bytes of a number are the machine's
+pub machine_bytes : {n : ℕ} → n < 65536 → to_be_bytes w16 n ≡ bytes16 n
+unfolding bytes16
+machine_bytes h = ap₂ (λ (x y : ℕ). x ∷ y ∷ []) (omega arith) refl
 
 pub number_lt : {high low : ℕ} → high < 256 → low < 256 → number16 high low < 65536
 unfolding number16

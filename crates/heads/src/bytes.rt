@@ -6,41 +6,30 @@ ghost use Rattle.heads.specs.Heads.{number16, bits16, signed16, unsigned_at};
 pub fn signed(high: u8, low: u8) -> i32
     ensures { (result ≡ signed16 (number16 high low)) × (nat_abs result ≤ 32768) }
 {
-    let bits = 256 * (high as u32) + low as u32;
-    if bits < 32768 {
-        return bits as i32;
-    }
-    bits as i32 - 65536
+    i32::from(i16::from_be_bytes([high, low]))
 }
 
 // The byte at place k, 0 past the end.
 fn byte_at(file: &[u8], k: usize) -> u8
     ensures { result ≡ get_or file.now k 0 }
 {
-    if k < file.len() {
-        return file[k];
-    }
-    0
+    file.get(k).copied().unwrap_or(0)
 }
 
 // The number at byte k; a byte past the end counts as 0.
 pub fn unsigned_at(file: &[u8], k: usize) -> u32
     ensures { (result ≡ unsigned_at file.now k) × (result < 65536) }
 {
-    if k < file.len() {
-        let high = file[k];
-        let low = byte_at(file, k + 1);
-        return 256 * (high as u32) + low as u32;
+    // Nothing stands at the end, and k + 1 might not be a place.
+    if file.len() <= k {
+        return 0;
     }
-    0
+    u32::from(u16::from_be_bytes([file[k], byte_at(file, k + 1)]))
 }
 
 // The bits of a signed number.
 pub fn bits_of(z: i16) -> u32
     ensures { (result ≡ bits16 z) × (result < 65536) }
 {
-    if z < 0 {
-        return (z as i32 + 65536) as u32;
-    }
-    z as u32
+    u32::from(z.cast_unsigned())
 }

@@ -13,14 +13,12 @@ use refusals::Refusal;
 // The longest line: `0`, a space, 256 bytes in hexadecimal and a newline.
 pub const LINE_BYTES: usize = 515;
 
+#[tactic(auto, unfolding(crate::specs::Lines::hex_digit))]
 fn hex_digit(d: u8) -> u8
     requires { d < 16 }
     ensures { result ≡ hex_digit d }
 {
-    if d < 10 {
-        return b'0' + d;
-    }
-    b'A' + (d - 10)
+    if d < 10 { b'0' + d } else { b'A' + (d - 10) }
 }
 
 // Answers the length of the line.
@@ -30,12 +28,9 @@ fn write_digits(message: &[u8], line: &mut [u8]) -> usize
 {
     line[0] = b'0';
     line[1] = b' ';
-    let mut i = 0;
-    while i < message.len() {
-        let b = message[i];
+    for (i, b) in message.iter().enumerate() {
         line[2 + 2 * i] = hex_digit(b / 16);
         line[3 + 2 * i] = hex_digit(b % 16);
-        i += 1;
     }
     let end = 2 + 2 * message.len();
     line[end] = b'\n';
@@ -53,43 +48,26 @@ pub fn write_message(message: &[u8], line: &mut [u8]) -> usize
     write_digits(message, line)
 }
 
-// The line of a refusal with a number of one digit, and of two.
-fn write_one_digit(n: u8, line: &mut [u8]) -> usize
-    requires { n < 10 }
-    ensures { Writes (line_of (refused n)) result line.old line.new }
+// Bytes, to the front of line. Answers how many they are, or 0 where they do not fit.
+fn write_bytes(bytes: &[u8], line: &mut [u8]) -> usize
+    ensures { Writes bytes.now result line.old line.new }
 {
-    if line.len() < 4 {
+    if line.len() < bytes.len() {
         return 0;
     }
-    line[0] = b'0' + n;
-    line[1] = b' ';
-    line[2] = b'-';
-    line[3] = b'\n';
-    4
-}
-
-fn write_two_digits(n: u8, line: &mut [u8]) -> usize
-    requires { (10 ≤ n) × (n < 100) }
-    ensures { Writes (line_of (refused n)) result line.old line.new }
-{
-    if line.len() < 5 {
-        return 0;
-    }
-    line[0] = b'0' + n / 10;
-    line[1] = b'0' + n % 10;
-    line[2] = b' ';
-    line[3] = b'-';
-    line[4] = b'\n';
-    5
+    line[..bytes.len()].copy_from_slice(bytes);
+    bytes.len()
 }
 
 // The line of a refusal, to the front of line. Answers its length, or 0 where it does not fit.
+#[tactic(auto, unfolding(crate::specs::Lines::decimal))]
 pub fn write_refusal(refusal: Refusal, line: &mut [u8]) -> usize
     ensures { Writes (line_of (refused (number_of refusal))) result line.old line.new }
 {
     let n = refusal.number() as u8;
     if n < 10 {
-        return write_one_digit(n, line);
+        write_bytes(&[b'0' + n, b' ', b'-', b'\n'], line)
+    } else {
+        write_bytes(&[b'0' + n / 10, b'0' + n % 10, b' ', b'-', b'\n'], line)
     }
-    write_two_digits(n, line)
 }

@@ -15,10 +15,7 @@ mod writing;
 fn two_each(bytes: usize, numbers: usize) -> bool
     ensures { result ≡ eqb bytes (2 * numbers) }
 {
-    if bytes % 2 != 0 {
-        return false;
-    }
-    bytes / 2 == numbers
+    bytes % 2 == 0 && bytes / 2 == numbers
 }
 
 // The numbers that bytes store, to numbers, where there is room for just these.

@@ -8,10 +8,7 @@ pub(crate) fn read_into(bytes: &[u8], numbers: &mut [i32])
     requires { length bytes.now ≡ 2 * length numbers.old }
     ensures { numbers.new ≡ numbers_from bytes.now }
 {
-    let mut k = 0;
-    while k < numbers.len() {
-        let z = signed(bytes[2 * k], bytes[2 * k + 1]);
-        numbers[k] = z;
-        k += 1;
+    for (k, z) in numbers.iter_mut().enumerate() {
+        *z = signed(bytes[2 * k], bytes[2 * k + 1]);
     }
 }

@@ -1,18 +1,16 @@
--- `write_digits` meets its contract. The loop's invariant: the digits of the bytes passed are stored from place 2 on.
-use mathlib.Core.Path.{◌≡◌, refl, ◌∙◌, ap}
+-- `write_digits` meets its contract.
+use mathlib.Core.Path.{◌≡◌, refl, ◌∙◌}
 use mathlib.Core.List.{List, [], ◌∷◌, ◌++◌}
-use Prim.Native.Nat.{ℕ, zero, suc, ◌+◌, ◌-◌, ◌*◌, ◌/◌, ◌%◌, ◌≤◌, ◌<◌}
+use Prim.Native.Nat.{ℕ, zero, suc, ◌+◌, ◌*◌, ◌/◌, ◌%◌, ◌≤◌, ◌<◌}
 use native.Mathlib.Nat.{zero-add}
 use native.Mathlib.Numerals.{add-one}
 use native.Mathlib.Omega.{arith}
-use borrow.Author.Rules.{rules}
-use lib.ListN.{length, get_or, set, take, drop, length-set, length-append}
-use lib.Seq.{sets, sets-eq, length-sets, length-take-le, take_all}
+use lib.ListN.{length, get_or, set, take, drop, length-append}
+use lib.Seq.{sets, sets-eq, length-take-le, take_all}
 use Rattle.integers.proofs.Stores.{go_on}
 use Rattle.lines.specs.Lines.{decimal, hex_digit, hex}
 use Rattle.lines.proofs.Written.{hex_length}
 use Rattle.lines.proofs.write_digits.Goals as goal
-use Rattle.lines.proofs.write_digits.Goals.{At-loop-i}
 
 -- one more byte
 hex-next : (l : List ℕ) (i : ℕ) → i < length l → hex (take (suc i) l) ≡ hex (take i l) ++ (hex_digit (get_or l i 0 / 16) ∷ hex_digit (get_or l i 0 % 16) ∷ [])
@@ -40,18 +38,13 @@ ended m start line i h p e =
     rw (e, take_all, whole_length)
     (go_on (48 ∷ 32 ∷ hex m) (10 ∷ []) start 0 _ (omega (arith, hex_length m)) ∙ (simp zero-add at (sets-eq (whole m) start 0 (omega (arith, whole_length m)))))
 
--- the line keeps its length
-long : (c : At-loop-i) → length c.loop-i.line ≡ length c.args.line.now
-long c = ap length c.loop-i.invariant.1 ∙ length-sets c.args.line.now 0 (48 ∷ 32 ∷ hex _)
-
 pub loop-i-init : goal.loop-i-init
-unfolding decimal hex
-loop-i-init c = (omega arith, refl)
+unfolding hex
+loop-i-init c = refl
 
 pub loop-i-preserved : goal.loop-i-preserved
-unfolding decimal hex
-loop-i-preserved c = (omega arith, turn _ _ _ _ _ _ c.loop-i-test.true c.loop-i.invariant.1 c.hex_digit.ensures c.hex_digit-in-loop-i.ensures)
+loop-i-preserved c = turn _ _ _ _ _ _ c.loop-i-test.true c.loop-i.invariant c.hex_digit.ensures c.hex_digit-in-loop-i.ensures
 
 pub returns : goal.returns
-unfolding decimal hex
-returns c = (whole_length c.args.message.now, ended _ _ _ _ (omega arith) c.loop-i-test.false c.loop-i.invariant.1)
+unfolding decimal
+returns c = (whole_length c.args.message.now, ended _ _ _ _ (omega arith) c.loop-i-test.false c.loop-i.invariant)

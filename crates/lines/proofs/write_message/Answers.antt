@@ -1,13 +1,10 @@
 -- `write_message` meets its contract.
-use mathlib.Core.Path.{◌∙◌, ap}
-use mathlib.Core.List.{List, ◌++◌}
+use mathlib.Core.List.{List}
 use Prim.Native.Nat.{ℕ}
 use native.Mathlib.Omega.{arith}
-use borrow.Author.Rules.{rules}
-use lib.ListN.{drop}
 use Rattle.refusals.specs.Outcomes.{done}
 use Rattle.lines.specs.Lines.{line_of}
-use Rattle.lines.proofs.Written.{message_length, writes, writes_nothing}
+use Rattle.lines.proofs.Written.{message_length, writes_nothing}
 use Rattle.lines.proofs.write_message.Goals as goal
 use Rattle.lines.proofs.write_message.Goals.{Start}
 

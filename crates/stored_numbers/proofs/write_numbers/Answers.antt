@@ -1,16 +1,12 @@
 -- `write_numbers` meets its contract.
-use mathlib.Core.Path.{◌≡◌, refl, sym, ◌∙◌, ap, ap₂, subst}
-use mathlib.Core.Bool.{Bool, true, ◌&&◌}
+use mathlib.Core.Path.{◌≡◌, sym, ◌∙◌, subst}
+use mathlib.Core.Bool.{Bool, true}
 use Prim.Native.Nat.{◌*◌}
-use borrow.Author.Rules.{rules}
-use borrow.Author.Tests.{eqb-true, not-true, not-false}
+use borrow.Author.Tests.{eqb-true}
 use lib.Dec.{T, eqb}
 use lib.ListN.{length}
-use Rattle.integers.proofs.Tests.{and_false}
 use Rattle.arrays.specs.Arrays.{all_small}
 use Rattle.arrays.proofs.Sizes.{are_within}
-use Rattle.files.specs.Files.{bytes_of}
-use Rattle.unit_operands.proofs.Operands.{formed, not_formed}
 use Rattle.stored_numbers.proofs.write_numbers.Goals as goal
 use Rattle.stored_numbers.proofs.write_numbers.Goals.{Start}
 

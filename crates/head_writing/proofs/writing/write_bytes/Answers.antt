@@ -1,16 +1,14 @@
 -- `write_bytes` meets its contract.
-use mathlib.Core.Path.{◌≡◌, sym, ◌∙◌, ap, ap₂, subst}
-use mathlib.Core.List.{List, [], ◌∷◌, ◌++◌}
-use Prim.Native.Nat.{ℕ}
+use mathlib.Core.Path.{◌≡◌, sym, ◌∙◌, ap, subst}
 use native.Mathlib.Omega.{arith}
 use borrow.Author.Rules.{rules}
 use lib.IntN.{ℤ}
-use lib.Seq.{sets, sets-eq}
+use lib.Seq.{sets-eq}
 use mir.Syntax.{w16, w32}
 use mir.Val.{SFits, to_z, of_z}
 use mir.Facts.{to_z-of_z}
 use Rattle.parameters.specs.Sets.{set_of}
-use Rattle.heads.specs.Heads.{version, bytes16, bits16, head_bytes}
+use Rattle.heads.specs.Heads.{bytes16, bits16, head_bytes}
 use Rattle.heads.proofs.ArraysOfKinds.{kind_small}
 use Rattle.heads.proofs.PartsFit.{PartsFit, parts_fit}
 use Rattle.head_writing.proofs.writing.write_bytes.Goals as goal
@@ -32,34 +30,30 @@ c_handed s = ap (λ (z : ℤ). to_z w16 (of_z w16 z)) (c_read s) ∙ to_z-of_z (
 d_handed : (s : Start) → to_z w16 (of_z w16 (to_z w32 (of_z w32 s.args.p.d))) ≡ s.args.p.d
 d_handed s = ap (λ (z : ℤ). to_z w16 (of_z w16 z)) (d_read s) ∙ to_z-of_z (fit s).d_fits
 
--- the bytes before the parameters
-mark : Start → List ℕ
-mark s = 69 ∷ 73 ∷ 90 ∷ bytes16 version ++ (s.args.kind ∷ [])
+pub overflow_cast-p : goal.overflow_cast-p
+overflow_cast-p c = let s = (goal.at.overflow_cast-p c).Start in subst (SFits w16) (sym (c_read s)) (fit s).c_fits
 
--- the parameters' bytes, from the bits of q's parts
-bytes : Start → ℕ → ℕ → List ℕ
-bytes s c d = bytes16 s.args.p.n ++ (bytes16 c ++ (bytes16 d ++ (bytes16 s.args.p.s ++ bytes16 s.args.p.t)))
+pub overflow_cast-p-2 : goal.overflow_cast-p-2
+overflow_cast-p-2 c = let s = (goal.at.overflow_cast-p-2 c).Start in subst (SFits w16) (sym (d_read s)) (fit s).d_fits
 
 pub write_mark-requires : goal.write_mark-requires
-unfolding head_bytes mark bytes bytes16
 write_mark-requires c = (kind_small c.args.kind c.requires.0, c.requires.2)
 
-pub overflow_cast-c : goal.overflow_cast-c
-unfolding head_bytes mark bytes bytes16
-overflow_cast-c c = subst (SFits w16) (sym (c_read (goal.at.overflow_cast-c c).Start)) (fit (goal.at.overflow_cast-c c).Start).c_fits
+pub write_number-requires : goal.write_number-requires
+write_number-requires c = ((fit (goal.at.write_number-requires c).Start).N_fits, omega arith)
 
-pub overflow_cast-d : goal.overflow_cast-d
-unfolding head_bytes mark bytes bytes16
-overflow_cast-d c = subst (SFits w16) (sym (d_read (goal.at.overflow_cast-d c).Start)) (fit (goal.at.overflow_cast-d c).Start).d_fits
+pub write_number-requires-4 : goal.write_number-requires-4
+write_number-requires-4 c = ((fit (goal.at.write_number-requires-4 c).Start).s_fits, omega arith)
 
-pub write_parameters-requires : goal.write_parameters-requires
-unfolding head_bytes mark bytes bytes16
-write_parameters-requires c = let k = fit (goal.at.write_parameters-requires c).Start in
-    (k.N_fits, c.bits_of.ensures.1, c.bits_of-2.ensures.1, k.s_fits, k.t_fits, omega (arith, c.requires.2))
+pub write_number-requires-5 : goal.write_number-requires-5
+write_number-requires-5 c = ((fit (goal.at.write_number-requires-5 c).Start).t_fits, omega arith)
 
+-- the stores are a run from byte 0 on
 pub returns : goal.returns
-unfolding head_bytes mark bytes bytes16
-returns c = c.write_parameters.ensures
-    ∙ ap (λ (l : List ℕ). sets l 6 (bytes (goal.at.returns c).Start c.bits_of.result c.bits_of-2.result)) c.write_mark.ensures
-    ∙ ap₂ (λ (x y : ℕ). sets (sets c.args.file.now 0 (mark (goal.at.returns c).Start)) 6 (bytes (goal.at.returns c).Start x y)) (c.bits_of.ensures.0 ∙ ap bits16 (c_handed (goal.at.returns c).Start)) (c.bits_of-2.ensures.0 ∙ ap bits16 (d_handed (goal.at.returns c).Start))
-    ∙ sets-eq (head_bytes c.args.kind (set_of c.args.p)) c.args.file.now 0 c.requires.2
+unfolding head_bytes bytes16
+returns c =
+    let s = (goal.at.returns c).Start in
+    let bits_c : c.bits_of.result ≡ bits16 c.args.p.c = c.bits_of.ensures.0 ∙ ap bits16 (c_handed s) in
+    let bits_d : c.bits_of-2.result ≡ bits16 c.args.p.d = c.bits_of-2.ensures.0 ∙ ap bits16 (d_handed s) in
+    rw (c.write_number-5.ensures, c.write_number-4.ensures, c.write_number-3.ensures, c.write_number-2.ensures, c.write_number.ensures, c.write_mark.ensures, bits_c, bits_d)
+    (sets-eq (head_bytes c.args.kind (set_of c.args.p)) c.args.file.now 0 c.requires.2)

@@ -1,12 +1,12 @@
--- `write_number` meets its contract.
-use mathlib.Core.Path.{ap}
-use Prim.Native.Nat.{ℕ, ◌/◌, ◌%◌}
-use native.Mathlib.Numerals.{add-one}
-use borrow.Author.Rules.{rules}
-use lib.ListN.{set}
+-- `write_number` meets its contract: the two bytes are copied to byte k.
+use Rattle.std.proofs.Common.{◌≡◌, ◌∙◌, arith}
 use Rattle.heads.specs.Heads.{bytes16}
+use Rattle.heads.proofs.Copied.{copied}
+use Rattle.heads.proofs.Numbers.{machine_bytes}
 use Rattle.head_writing.proofs.writing.write_number.Goals as goal
 
 pub returns : goal.returns
 unfolding bytes16
-returns c = ap (λ (i : ℕ). set (set c.args.file.now c.args.k (c.args.n / 256)) i (c.args.n % 256)) (add-one c.args.k)
+returns c =
+    let two : c.copy_from_slice.new.self ≡ bytes16 c.args.n = c.copy_from_slice.ensures.after ∙ c.to_be_bytes.ensures ∙ machine_bytes c.requires.0 in
+    rw two (copied c.args.k _ c.args.file.now (bytes16 c.args.n) (omega arith) (omega arith))

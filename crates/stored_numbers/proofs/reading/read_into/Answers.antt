@@ -1,12 +1,12 @@
 -- `read_into` meets its contract. The loop's invariant: the numbers that are read are right.
 use mathlib.Core.Path.{◌≡◌, sym, ◌∙◌}
 use mathlib.Core.List.{List}
-use Prim.Native.Nat.{ℕ, ◌-◌, ◌*◌, ◌≤◌}
+use Prim.Native.Nat.{ℕ, ◌*◌, ◌≤◌}
 use native.Mathlib.Omega.{arith}
 use lib.IntN.{ℤ, pos}
-use lib.ListN.{length, get_or}
+use lib.ListN.{length}
 use lib.Seq.{ext_get_or}
-use Rattle.arrays.proofs.Changing.{Changed, changed_none, set_next}
+use Rattle.arrays.proofs.Changing.{set_next}
 use Rattle.files.specs.Files.{numbers_from}
 use Rattle.files.proofs.Lists.{numbers_at, numbers_length}
 use Rattle.heads.proofs.Handed.{read_32}
@@ -18,10 +18,8 @@ all_filled bytes numbers₀ numbers k n l f =
     ext_get_or (pos 0) numbers (numbers_from bytes) (f.long ∙ omega (arith, numbers_length bytes)) (λ i h. f.new i (omega (arith, f.long)))
 
 pub loop-k-preserved : goal.loop-k-preserved
-loop-k-preserved c = let h = c.loop-k-test.true in (
-  omega (arith, h, c.loop-k.invariant.1.long),
-  set_next (pos 0) c.loop-k.invariant.1 h (read_32 c.signed-z.result c.signed-z.ensures.1 ∙ c.signed-z.ensures.0 ∙ sym (numbers_at c.args.bytes.now c.loop-k.k (omega (arith, h, c.loop-k.invariant.1.long)))),
-)
+loop-k-preserved c =
+    set_next (pos 0) c.loop-k.invariant (omega arith) (read_32 c.signed.result c.signed.ensures.1 ∙ c.signed.ensures.0 ∙ sym (numbers_at c.args.bytes.now c.loop-k.k (omega arith)))
 
 pub returns : goal.returns
-returns c = all_filled c.args.bytes.now c.args.numbers.now c.loop-k.numbers c.loop-k.k c.requires (omega (arith, c.loop-k-test.false, c.loop-k.invariant.1.long)) c.loop-k.invariant.1
+returns c = all_filled c.args.bytes.now c.args.numbers.now c.loop-k.numbers c.loop-k.k c.requires c.loop-k-test.false c.loop-k.invariant

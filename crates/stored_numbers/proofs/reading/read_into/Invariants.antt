@@ -1,15 +1,10 @@
 -- `read_into` meets its contract. The loop's invariant: the numbers that are read are right.
-use mathlib.Core.Path.{◌≡◌, sym, ◌∙◌}
 use mathlib.Core.List.{List}
-use Prim.Native.Nat.{ℕ, ◌-◌, ◌*◌, ◌≤◌}
-use native.Mathlib.Omega.{arith}
+use Prim.Native.Nat.{ℕ}
 use lib.IntN.{ℤ, pos}
-use lib.ListN.{length, get_or}
-use lib.Seq.{ext_get_or}
-use Rattle.arrays.proofs.Changing.{Changed, changed_none, set_next}
+use lib.ListN.{get_or}
+use Rattle.arrays.proofs.Changing.{Changed}
 use Rattle.files.specs.Files.{numbers_from}
-use Rattle.files.proofs.Lists.{numbers_at, numbers_length}
-use Rattle.heads.proofs.Handed.{read_32}
 use Rattle.stored_numbers.proofs.reading.read_into.Given as goal
 
 -- the first k numbers are those of the bytes
@@ -17,7 +12,4 @@ abbrev pub Filled : List ℕ → (numbers₀ numbers : List ℤ) → ℕ → Typ
 Filled bytes numbers₀ numbers k = Changed (λ l i. get_or l i (pos 0)) (λ i. get_or (numbers_from bytes) i (pos 0)) numbers₀ numbers k
 
 abbrev pub invariant-loop-k : goal.invariant-loop-k
-invariant-loop-k l = (l.k ≤ length l.initial.numbers) × Filled l.bytes l.initial.numbers l.numbers l.k
-
-abbrev pub decreases-loop-k : goal.decreases-loop-k
-decreases-loop-k l = length l.initial.numbers - l.k
+invariant-loop-k l = Filled l.bytes l.initial.numbers l.numbers l.k
