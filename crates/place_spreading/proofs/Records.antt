@@ -9,6 +9,8 @@ use borrow.Author.Tests.{eq-eqb, ne_eqb}
 use lib.Dec.{eqb}
 use lib.IntN.{ℤ, pos}
 use lib.ListN.{length, get_or, set, take, replicate}
+use Rattle.std.proofs.lemmas.Bool.{or_left, or_right}
+use Rattle.std.proofs.lemmas.List.{append-nil}
 use Rattle.std.specs.Bool.{MatchBool}
 use Rattle.std.specs.List.{AllWithin, HoldsAt}
 use Rattle.eisenstein.specs.Values.{ℤ[ω], value, unit}
@@ -19,18 +21,14 @@ use Rattle.placed_units.specs.declared.PlacedUnit.{PlacedUnit}
 use Rattle.placed_units.specs.PlacedUnits.{out_of_range, any_out_of_range, occurs, any_place_twice, spread}
 use Rattle.placed_units.proofs.Lists.{first_in_range, rest_in_range, record_in_range, spread_taken}
 
-or_true : (t : Bool) → (t || true) ≡ true
-or_true true = refl
-or_true false = refl
-
 -- ---- 23, of a list of which each record was looked at until one was out of range
 
 module _ (N : ℕ) where
   one_out : (places : List PlacedUnit) (k : ℕ) → k < length places → HoldsAt (λ r. out_of_range N r ≡ true) places k → any_out_of_range N places ≡ true
   unfolding any_out_of_range
   one_out [] k h out = absurd (omega arith)
-  one_out (r ∷ places) zero h out = ap (λ (t : Bool). t || any_out_of_range N places) (out r)
-  one_out (r ∷ places) (suc k) h out = ap (λ (t : Bool). out_of_range N r || t) (one_out places k (omega arith) out) ∙ or_true (out_of_range N r)
+  one_out (r ∷ places) zero h out = or_left (out_of_range N r) (any_out_of_range N places) (out r)
+  one_out (r ∷ places) (suc k) h out = or_right (out_of_range N r) (any_out_of_range N places) (one_out places k (omega arith) out)
 
   none_out : (places : List PlacedUnit) → AllWithin (λ r. out_of_range N r ≡ false) places 0 (length places) → any_out_of_range N places ≡ false
   unfolding any_out_of_range
@@ -52,7 +50,7 @@ range_behind N (r ∷ front) l h = range_behind N front l (rest_in_range N r (fr
 twice_behind : (front l : List PlacedUnit) → any_place_twice l ≡ true → any_place_twice (front ++ l) ≡ true
 unfolding any_place_twice
 twice_behind [] l h = h
-twice_behind (r ∷ front) l h = ap (λ (t : Bool). occurs r.place (front ++ l) || t) (twice_behind front l h) ∙ or_true (occurs r.place (front ++ l))
+twice_behind (r ∷ front) l h = or_right (occurs r.place (front ++ l)) (any_place_twice (front ++ l)) (twice_behind front l h)
 
 -- x holds the records behind `front`, and no place of theirs occurs twice
 pub record Laid (N : ℕ) (places : List PlacedUnit) (x : List ℤ) (front : List PlacedUnit) : Type 0 where
@@ -66,14 +64,10 @@ module _ (N : ℕ) (places : List PlacedUnit) where
   unfolding any_place_twice spread coefficient
   laid_none x e z = record {
     laid = [];
-    parts = append_nil places;
+    parts = append-nil places;
     once = refl;
     holds = array_by_coefficients N x (spread []) e (λ i l. ap₂ value (z (2 * i)) (z (2 * i + 1)));
   }
-    where
-      append_nil : (l : List PlacedUnit) → l ++ [] ≡ l
-      append_nil [] = refl
-      append_nil (r ∷ l) = ap (λ (l : List PlacedUnit). r ∷ l) (append_nil l)
 
   pub laid_length : {x : List ℤ} {front : List PlacedUnit} → Laid N places x front → length x ≡ 2 * N
   laid_length laid = ap length laid.holds ∙ array_length N (spread laid.laid)
@@ -103,7 +97,7 @@ module _ (N : ℕ) (places : List PlacedUnit) where
     pub laid_twice : nonzero (coefficient x r.place) ≡ true → any_place_twice places ≡ true
     unfolding any_place_twice
     laid_twice h =
-        sym (ap any_place_twice behind) ∙ twice_behind rest (r ∷ laid.laid) (ap (λ (t : Bool). t || any_place_twice laid.laid) (sym taken ∙ h))
+        sym (ap any_place_twice behind) ∙ twice_behind rest (r ∷ laid.laid) (or_left (occurs r.place laid.laid) (any_place_twice laid.laid) (sym taken ∙ h))
 
     pub laid_next : (x' : List ℤ) → nonzero (coefficient x r.place) ≡ false → length x' ≡ length x → ((k : ℕ) → coefficient x' k ≡ cond (eqb r.place k) (unit r.unit) (coefficient x k)) → Laid N places x' rest
     unfolding spread any_place_twice

@@ -1,6 +1,7 @@
 // Spreading: a list of places to the full array of its ephemeral.
 // It seals nothing.
 // It ends with `Done`, or with document 02's first refusal that applies, and then its output is as it came.
+// At every N `spread_places` takes less than 12 KiB of stack.
 
 #![tactic(auto)]
 
