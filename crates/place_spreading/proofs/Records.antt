@@ -59,7 +59,7 @@ pub record Laid (N : ℕ) (places : List PlacedUnit) (x : List ℤ) (front : Lis
   pub once : any_place_twice laid ≡ false
   pub holds : x ≡ array N (spread laid)
 
-module _ (N : ℕ) (places : List PlacedUnit) where
+module _ {N : ℕ} {places : List PlacedUnit} where
   pub laid_none : (x : List ℤ) → length x ≡ 2 * N → Zeros x → Laid N places x places
   unfolding any_place_twice spread coefficient
   laid_none x e z = record {

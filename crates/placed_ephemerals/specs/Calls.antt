@@ -1,5 +1,5 @@
 -- The outcomes of the two calls on a list of places, with the refusals in document 02's order. An output is known by its length, `room`.
-use Rattle.std.specs.Prelude.{not, ◌&&◌, List, [], ◌∷◌, ◌++◌, ℕ, ◌*◌, eqb, ℤ, length}
+use Rattle.std.specs.Prelude.{not, ◌&&◌, List, [], ◌∷◌, ◌++◌, ℕ, eqb, ℤ, length}
 use Rattle.refusals.specs.Outcomes.{Check, Outcome, outcome, ◌if◌}
 use Rattle.parameters.specs.Sets.{ParameterSet, parameter_checks}
 use Rattle.polynomials.specs.Polynomials.{coefficient, array, whole_triples, reduced_q}
