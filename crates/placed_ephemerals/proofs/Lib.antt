@@ -1,4 +1,3 @@
 pub mod Agreeing
-pub mod Layouts
 pub mod Promises
 pub mod Demand3

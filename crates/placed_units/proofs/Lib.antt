@@ -1,4 +1,3 @@
 pub mod Lists
-pub mod Layouts
 pub mod Orders
 pub mod PlacesOf

@@ -1,2 +1,1 @@
 pub mod PlacedUnits
-pub mod Layout

@@ -1,21 +1,8 @@
--- `lay` meets its contract. The loop's invariant: the records from record i on are laid, and no place of theirs occurs twice.
-use mathlib.Core.Path.{◌≡◌, sym, ◌∙◌, ap, ap₂, subst}
-use mathlib.Core.Bool.{true, false, not, cond}
-use mathlib.Core.List.{List}
-use Prim.Native.Nat.{ℕ, suc, ◌-◌, ◌≤◌, ◌<◌}
-use native.Mathlib.Omega.{arith}
-use borrow.Author.Tests.{not-true, not-false}
-use lib.Dec.{T, eqb}
-use Rattle.eisenstein.specs.Values.{unit}
-use Rattle.polynomials.specs.Polynomials.{coefficient, array, nonzero}
-use Rattle.placed_units.specs.declared.PlacedUnit.{PlacedUnit}
-use Rattle.placed_units.specs.PlacedUnits.{any_out_of_range, any_place_twice, spread}
-use Rattle.placed_units.specs.Layout.{record_at, records_from}
-use Rattle.place_spreading.proofs.Records.{from, from_start, Laid, laid_none, laid_length, laid_twice, laid_next, range_at}
+-- `lay` meets its contract. The loop's invariant: the records that it has passed are laid, and no place of theirs occurs twice.
+use Rattle.std.specs.Iterator.Adapters.{rev_source}
+use Rattle.std.specs.Slice.Iter.{iter_rest}
+use Rattle.place_spreading.proofs.Records.{Laid}
 use Rattle.place_spreading.proofs.laying.lay.Given as goal
 
-abbrev pub invariant-loop-i : goal.invariant-loop-i
-invariant-loop-i l = Laid l.numbers l.count l.n l.x l.i
-
-abbrev pub decreases-loop-i : goal.decreases-loop-i
-decreases-loop-i l = l.i
+abbrev pub invariant-loop-r : goal.invariant-loop-r
+invariant-loop-r l = Laid l.n l.places l.x (iter_rest (rev_source l.r-iterator))

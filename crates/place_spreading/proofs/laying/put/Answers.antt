@@ -1,11 +1,9 @@
 -- `put` meets its contract.
-use mathlib.Core.Path.{refl, sym, ◌∙◌, ap, subst}
+use mathlib.Core.Path.{sym, ◌∙◌, ap}
 use mathlib.Core.Bool.{Bool, not}
 use native.Mathlib.Omega.{arith}
 use native.Mathlib.Nat.{mod-eq_of_lt}
 use borrow.Author.Rules.{rules}
-use borrow.Author.Tests.{not-true, not-false}
-use lib.Dec.{T}
 use mir.Syntax.{w32}
 use Rattle.eisenstein.specs.Values.{unit}
 use Rattle.eisenstein.proofs.Pairs.{pair_read}
@@ -13,10 +11,14 @@ use Rattle.polynomials.specs.Polynomials.{nonzero}
 use Rattle.place_spreading.proofs.Records.{stored_one}
 use Rattle.place_spreading.proofs.laying.put.Goals as goal
 
-pub returns-then-not-coefficient_is : goal.returns-then-not-coefficient_is
+pub returns-then-free-clause-value : goal.returns-then-free-clause-value
 unfolding nonzero
-returns-then-not-coefficient_is c = record { value = sym (ap (λ (t : Bool). not (not t)) (sym c.coefficient_is.ensures ∙ c.if-not-coefficient_is.true)); x_len_unchanged = refl; i_after = λ e. absurd (subst T (sym e) tt) }
+returns-then-free-clause-value c = c.if-free.true ∙ sym (ap (λ (t : Bool). not (not t)) (sym c.coefficient_is-free.ensures ∙ c.if-free.true))
 
-pub returns : goal.returns
+pub returns-then-free-clause-i_after : goal.returns-then-free-clause-i_after
+returns-then-free-clause-i_after c _ =
+    stored_one c.args.x.now c.args.r.place _ _ c.requires.0 (pair_read {w = w32} {a = c.unit-u.result.a} {b = c.unit-u.result.b} (search rules) (search rules) ∙ c.unit-u.ensures ∙ ap unit (mod-eq_of_lt (omega (arith, c.requires.1))))
+
+pub returns-else-free-clause-value : goal.returns-else-free-clause-value
 unfolding nonzero
-returns c = record { value = sym (ap (λ (t : Bool). not (not t)) (sym c.coefficient_is.ensures ∙ c.if-not-coefficient_is.false)); x_len_unchanged = search rules; i_after = λ _. stored_one c.args.x.now c.args.place _ _ c.requires.0 (pair_read {w = w32} {a = c.unit-u.result.a} {b = c.unit-u.result.b} (search rules) (search rules) ∙ c.unit-u.ensures ∙ ap unit (mod-eq_of_lt (omega (arith, c.requires.1)))) }
+returns-else-free-clause-value c = c.if-free.false ∙ sym (ap (λ (t : Bool). not (not t)) (sym c.coefficient_is-free.ensures ∙ c.if-free.false))

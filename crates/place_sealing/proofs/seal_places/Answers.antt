@@ -1,0 +1,26 @@
+-- `seal_places` meets its contract: what is asked before the records, then what they give.
+use mathlib.Core.Path.{sym, ◌∙◌, ap}
+use mathlib.Core.List.{List, [], ◌∷◌, ◌++◌, append_assoc}
+use lib.ListN.{length}
+use Rattle.refusals.specs.Outcomes.{Check, outcome, ◌if◌}
+use Rattle.refusals.specs.Numbers.{answered}
+use Rattle.refusals.proofs.Checks.{refused_first, gives_refused}
+use Rattle.parameters.specs.Sets.{set_of, parameter_checks}
+use Rattle.polynomials.specs.Polynomials.{coefficient, array}
+use Rattle.packing.specs.Messages.{packed, spare_bit_set}
+use Rattle.etru.specs.Scheme.{sealed}
+use Rattle.placed_units.specs.PlacedUnits.{spread}
+use Rattle.placed_ephemerals.specs.Calls.{place_checks, before_places, places_sealing_checks, places_sealing}
+use Rattle.place_sealing.proofs.seal_places.Goals as goal
+
+pub returns-in-Refused : goal.returns-in-Refused
+unfolding places_sealing places_sealing_checks
+returns-in-Refused c =
+    let p = set_of c.args.p in
+    let places = c.args.places.now in
+    let message = c.args.message.now in
+    let before = before_places p c.args.h.now (length places) (length message) (length c.args.e.now) in
+    let after : List Check = place_checks p places ++ (15 if spare_bit_set p.N message ∷ []) in
+    gives_refused (parameter_checks p ++ (before ++ after)) (array p.N (sealed p (coefficient c.args.h.now) (spread places) (packed message))) c.args.e.now _
+    (ap (λ (l : List Check). outcome l (tt {0})) (sym (append_assoc (parameter_checks p) before after))
+    ∙ refused_first (parameter_checks p ++ before) after (tt {0}) _ (sym c.refusal_before_places.ensures ∙ ap answered c.in-Refused.is))
