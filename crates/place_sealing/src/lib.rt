@@ -14,7 +14,7 @@ mod spread;
 
 use parameters::Parameters;
 use placed_units::PlacedUnit;
-use refusals::Answer;
+use refusals::Refusal;
 
 // Seals a message with the public key h and the ephemeral that a list of places spreads to, to e.
 pub fn seal_places(
@@ -23,12 +23,10 @@ pub fn seal_places(
     places: &[PlacedUnit],
     message: &[u8],
     e: &mut [i32],
-) -> Answer
+) -> Result<(), Refusal>
     ensures { Gives (places_sealing (set_of p) h.now places.now message.now (length e.old))
         (number (answered result)) e.old e.new }
 {
-    match spread::refusal_before_places(p, h, places.len(), message.len(), e.len()) {
-        Answer::Done => spread::seal_spread(p, h, places, message, e),
-        Answer::Refused(refusal) => Answer::Refused(refusal),
-    }
+    spread::refusal_before_places(p, h, places.len(), message.len(), e.len())?;
+    spread::seal_spread(p, h, places, message, e)
 }

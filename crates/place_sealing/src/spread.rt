@@ -10,7 +10,7 @@ ghost use Rattle.placed_ephemerals.specs.Calls.{before_places, places_sealing};
 use array_sets::{ArraySet, check_array};
 use parameters::Parameters;
 use placed_units::PlacedUnit;
-use refusals::{Answer, Refusal};
+use refusals::Refusal;
 
 // Whether the message has its bytes, the list s records, and h and the output 2N numbers.
 fn has_lengths(p: Parameters, h: usize, records: usize, message: usize, room: usize) -> bool
@@ -26,13 +26,13 @@ pub(crate) fn refusal_before_places(
     records: usize,
     message: usize,
     room: usize,
-) -> Answer
+) -> Result<(), Refusal>
     ensures { answered result ≡ outcome (parameter_checks (set_of p) ++ before_places (set_of p) h.now records message room) tt }
 {
     let lengths = has_lengths(p, h.len(), records, message, room);
-    p.check()
-        .and(Refusal::WrongLength.when(!lengths))
-        .and(check_array(p, ArraySet::ReducedModuloQ, h))
+    p.check()?;
+    Refusal::WrongLength.when(!lengths)?;
+    check_array(p, ArraySet::ReducedModuloQ, h)
 }
 
 // The array of the list goes to phi. Spreading gives 23, 24 and 10; sealing asks again what was asked before them, and then 15.
@@ -42,15 +42,13 @@ pub(crate) fn seal_spread(
     places: &[PlacedUnit],
     message: &[u8],
     e: &mut [i32],
-) -> Answer
+) -> Result<(), Refusal>
     requires { Passes (parameter_checks (set_of p) ++ before_places (set_of p) h.now (length places.now) (length message.now) (length e.old)) }
     ensures { Gives (places_sealing (set_of p) h.now places.now message.now (length e.old))
         (number (answered result)) e.old e.new }
 {
     let mut room = arrays::zeros();
     let phi = &mut room[..2 * (p.n as usize)];
-    match place_spreading::spread_places(p, places, phi) {
-        Answer::Done => sealing::seal(p, h, phi, message, e),
-        Answer::Refused(refusal) => Answer::Refused(refusal),
-    }
+    place_spreading::spread_places(p, places, phi)?;
+    sealing::seal(p, h, phi, message, e)
 }

@@ -12,7 +12,7 @@ use crate::laying;
 use array_sets::{ArraySet, check_array};
 use parameters::Parameters;
 use placed_units::PlacedUnit;
-use refusals::{Answer, Refusal};
+use refusals::Refusal;
 
 // Whether a list has s records, and the output's length is 2N.
 pub(crate) fn has_lengths(p: Parameters, records: usize, room: usize) -> bool
@@ -22,34 +22,30 @@ pub(crate) fn has_lengths(p: Parameters, records: usize, room: usize) -> bool
 }
 
 // Lays a list into x, an array of zeros, which shows whether a place occurs twice and whether φ is in its set.
-fn lay_checked(p: Parameters, places: &[PlacedUnit], x: &mut [i32]) -> Answer
+fn lay_checked(p: Parameters, places: &[PlacedUnit], x: &mut [i32]) -> Result<(), Refusal>
     requires passes { Passes (parameter_checks (set_of p)) }
     requires zeros { (length x.old ≡ 2 * p.n) × Zeros x.old }
     ensures refusal { answered result ≡ outcome (place_checks (set_of p) places.now) tt }
     ensures laid { Passes (place_checks (set_of p) places.now) → x.new ≡ array p.n (spread places.now) }
 {
     if laying::any_out_of_range(p.n, places) {
-        return Answer::Refused(Refusal::PlaceOrUnitOutOfRange);
+        return Err(Refusal::PlaceOrUnitOutOfRange);
     }
     if !laying::lay(p.n, places, x) {
-        return Answer::Refused(Refusal::PlaceOccursTwice);
+        return Err(Refusal::PlaceOccursTwice);
     }
     check_array(p, ArraySet::Phi, x)
 }
 
 // Only the array of a list that is not refused goes to phi, so a refusal leaves phi as it came.
-pub(crate) fn spread_into(p: Parameters, places: &[PlacedUnit], phi: &mut [i32]) -> Answer
+pub(crate) fn spread_into(p: Parameters, places: &[PlacedUnit], phi: &mut [i32]) -> Result<(), Refusal>
     requires { Passes (parameter_checks (set_of p)) × (length phi.old ≡ 2 * p.n) }
     ensures { Gives (outcome (place_checks (set_of p) places.now) (array p.n (spread places.now)))
         (number (answered result)) phi.old phi.new }
 {
     let mut laid = arrays::zeros();
     let x = &mut laid[..2 * (p.n as usize)];
-    match lay_checked(p, places, x) {
-        Answer::Done => {
-            phi.copy_from_slice(x);
-            Answer::Done
-        }
-        Answer::Refused(refusal) => Answer::Refused(refusal),
-    }
+    lay_checked(p, places, x)?;
+    phi.copy_from_slice(x);
+    Ok(())
 }

@@ -16,16 +16,15 @@ mod laying;
 
 use parameters::Parameters;
 use placed_units::PlacedUnit;
-use refusals::{Answer, Refusal};
+use refusals::Refusal;
 
 // Spreads a list of places to phi.
-pub fn spread_places(p: Parameters, places: &[PlacedUnit], phi: &mut [i32]) -> Answer
+pub fn spread_places(p: Parameters, places: &[PlacedUnit], phi: &mut [i32]) -> Result<(), Refusal>
     ensures { Gives (spreading (set_of p) places.now (length phi.old))
         (number (answered result)) phi.old phi.new }
 {
     let lengths = checked::has_lengths(p, places.len(), phi.len());
-    match p.check().and(Refusal::WrongLength.when(!lengths)) {
-        Answer::Done => checked::spread_into(p, places, phi),
-        Answer::Refused(refusal) => Answer::Refused(refusal),
-    }
+    p.check()?;
+    Refusal::WrongLength.when(!lengths)?;
+    checked::spread_into(p, places, phi)
 }

@@ -36,21 +36,21 @@ asked s h =
 pub spread_into-requires : goal.spread_into-requires
 spread_into-requires c =
     let s = (goal.at.spread_into-requires c).After-and in
-    let a = asked s (sym (before s) ∙ ap answered c.in-Done.is) in
+    let a = asked s (sym (before s) ∙ ap answered c.in-Ok.is) in
     (a.0, (are_equal_2 (length c.args.places.now) c.args.p.s (length c.args.phi.now) (2 * c.args.p.n) a.1).1)
 
-pub returns-in-Done : goal.returns-in-Done
+pub returns-in-Ok : goal.returns-in-Ok
 unfolding spreading spreading_checks
-returns-in-Done c =
-    let s = (goal.at.returns-in-Done c).After-and in
-    let a = asked s (sym (before s) ∙ ap answered c.in-Done.is) in
+returns-in-Ok c =
+    let s = (goal.at.returns-in-Ok c).After-and in
+    let a = asked s (sym (before s) ∙ ap answered c.in-Ok.is) in
     gives_same c.args.phi.now (passed_all (parameter_checks (P s)) _ _ a.0 ∙ holds_passed 7 (lengths s) _ _ a.1) c.spread_into.ensures
 
-pub returns-in-Refused : goal.returns-in-Refused
+pub returns-in-Err : goal.returns-in-Err
 unfolding spreading spreading_checks
-returns-in-Refused c =
-    let s = (goal.at.returns-in-Refused c).After-and in
+returns-in-Err c =
+    let s = (goal.at.returns-in-Err c).After-and in
     let checks = place_checks (P s) c.args.places.now in
     gives_refused (from_7 (P s) (lengths s) checks) (array (P s).N (spread c.args.places.now)) c.args.phi.now _
     (ap (λ (l : List Check). outcome l (tt {0})) (sym (append_assoc (parameter_checks (P s)) (7 if not (lengths s) ∷ []) checks))
-    ∙ refused_first (from_7 (P s) (lengths s) []) checks (tt {0}) _ (sym (before s) ∙ ap answered c.in-Refused.is))
+    ∙ refused_first (from_7 (P s) (lengths s) []) checks (tt {0}) _ (sym (before s) ∙ ap answered c.in-Err.is))

@@ -67,15 +67,15 @@ slice_bounds-room-end c = omega (arith, ap length c.zeros-room.ensures, small (g
 pub slice_bounds-phi-end : goal.slice_bounds-phi-end
 slice_bounds-phi-end c = sym (part (goal.at.slice_bounds-phi-end c).Start c.zeros-room.result c.zeros-room.ensures)
 
-pub returns-in-Done : goal.returns-in-Done
-returns-in-Done c =
-    gives_same c.args.e.now (sealed_so (set_of c.args.p) c.args.places.now _ _ _ c.in-Done.ensures c.args.h.now c.args.message.now (length c.args.e.now)) c.seal.ensures
+pub returns : goal.returns
+returns c =
+    gives_same c.args.e.now (sealed_so (set_of c.args.p) c.args.places.now _ _ _ c.in_ok-spread_places.ensures c.args.h.now c.args.message.now (length c.args.e.now)) c.seal.ensures
 
-pub returns-in-Refused : goal.returns-in-Refused
-returns-in-Refused c =
-    let refusal = c.in-Refused.refusal in
-    let whole = part (goal.at.returns-in-Refused c).Start c.zeros-room.result c.zeros-room.ensures in
-    let refused-list = answer_refused _ c.spread_places.result refusal c.spread_places.ensures.0 c.in-Refused.is in
+pub returns-in_err-spread_places : goal.returns-in_err-spread_places
+returns-in_err-spread_places c =
+    let refusal = c.in_err-spread_places.refusal in
+    let whole = part (goal.at.returns-in_err-spread_places c).Start c.zeros-room.result c.zeros-room.ensures in
+    let refused-list = answer_refused _ c.spread_places.result refusal c.spread_places.ensures.0 c.in_err-spread_places.was in
     gives_same c.args.e.now
     (refused_so (set_of c.args.p) c.args.places.now c.args.h.now c.args.message.now _ (length c.args.e.now) (number_of refusal) c.requires whole (number_positive refusal) refused-list)
     (refl, refl)

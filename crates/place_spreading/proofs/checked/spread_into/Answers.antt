@@ -5,6 +5,7 @@ use Prim.Native.Nat.{◌*◌, ◌≤◌}
 use native.Mathlib.Omega.{arith}
 use lib.IntN.{ℤ, pos}
 use lib.ListN.{length, take, replicate}
+use Rattle.refusals.proofs.Errors.{gives_passed_on}
 use Rattle.refusals.specs.Outcomes.{Check, Passes}
 use Rattle.refusals.specs.Numbers.{answered}
 use Rattle.refusals.proofs.Checks.{gives_done, gives_refused}
@@ -44,13 +45,13 @@ lay_checked-requires-clause-zeros c =
 pub copy_from_slice-requires : goal.copy_from_slice-requires
 copy_from_slice-requires c = omega (arith, part (goal.at.copy_from_slice-requires c).Start c.zeros-laid.result c.zeros-laid.ensures)
 
-pub returns-in-Done : goal.returns-in-Done
-returns-in-Done c =
-    let s = (goal.at.returns-in-Done c).Start in
-    let passes : Passes (checks s) = sym c.lay_checked.ensures.refusal ∙ ap answered c.in-Done.is in
+pub returns : goal.returns
+returns c =
+    let s = (goal.at.returns c).Start in
+    let passes : Passes (checks s) = sym c.in_ok-lay_checked.ensures.refusal in
     gives_done (checks s) (value_of s) c.args.phi.now _ passes (c.copy_from_slice.ensures.after ∙ c.lay_checked.ensures.laid passes)
 
-pub returns-in-Refused : goal.returns-in-Refused
-returns-in-Refused c =
-    let s = (goal.at.returns-in-Refused c).Start in
-    gives_refused (checks s) (value_of s) c.args.phi.now _ (sym c.lay_checked.ensures.refusal ∙ ap answered c.in-Refused.is)
+pub returns-in_err-lay_checked : goal.returns-in_err-lay_checked
+returns-in_err-lay_checked c =
+    let s = (goal.at.returns-in_err-lay_checked c).Start in
+    gives_passed_on (checks s) (value_of s) c.args.phi.now _ _ c.from_residual.ensures.1 (sym c.in_err-lay_checked.ensures.refusal)
