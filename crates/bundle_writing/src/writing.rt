@@ -60,7 +60,7 @@ pub(crate) fn write_file(p: Parameters, stops: &[u16], numbers: &[i32], file: &m
 {
     let n = p.n;
     // Nothing is refused: the kind is known, and the parameters and the length have passed.
-    let _answer: Result<(), Refusal> = write_head(kinds::BUNDLE, p, file);
+    let _ = write_head(kinds::BUNDLE, p, file);
     write_count(stops.len(), file);
     write_entries(n, stops, numbers, &mut file[FIRST_ENTRY..]);
 }

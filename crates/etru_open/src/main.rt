@@ -66,7 +66,7 @@ fn main(rt: HostRuntime) {
     let mut line = line_buffer();
     let mut used = 0;
     // the line has its room, so nothing is refused
-    let _answer: Result<(), Refusal> = opening::open_files(&input[..n], &mut line, &mut used);
+    let _ = opening::open_files(&input[..n], &mut line, &mut used);
     // where a write fails, there is nobody to tell
     let _ = rt.write_all(&line[..used]);
 }

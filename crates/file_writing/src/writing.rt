@@ -34,7 +34,7 @@ fn write_file(kind: u32, p: Parameters, numbers: &[i32], file: &mut [u8])
     ensures { file.new ≡ file_of kind (set_of p) numbers.now }
 {
     // Nothing is refused: the kind, the parameters and the lengths have passed.
-    let _answer: Result<(), Refusal> = write_head(kind, p, file);
+    let _ = write_head(kind, p, file);
     write_numbers(numbers, &mut file[HEAD_BYTES..]);
 }
 

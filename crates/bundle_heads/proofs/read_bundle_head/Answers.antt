@@ -5,6 +5,7 @@ use mathlib.Core.List.{List, [], ◌∷◌}
 use Prim.Native.Nat.{ℕ}
 use borrow.Author.Rules.{rules}
 use lib.ListN.{length}
+use Rattle.refusals.proofs.Errors.{err_is}
 use Rattle.refusals.specs.Outcomes.{Check, outcome, ◌if◌}
 use Rattle.refusals.proofs.Checks.{passed_all, refused_first}
 use Rattle.parameters.specs.Sets.{ParameterSet, made}
@@ -35,4 +36,4 @@ unfolding reading_parameters count_checks reading_head
 returns-in_err-p c =
     let head_is : let file = c.args.file.now in made c.read_head.result ≡ outcome (bundle_head_checks file) (head_of file) = c.read_head.ensures in
     let file = c.args.file.now in
-    sym (refused_first (bundle_head_checks file) (length_check file (head_of file)) (head_of file) _ (made_refused (bundle_head_checks file) (head_of file) c.in_err-p.field-0.0 (sym (ap made c.in_err-p.was) ∙ head_is)))
+    ap made (err_is _ _ c.from_residual.ensures.1) ∙ sym (refused_first (bundle_head_checks file) (length_check file (head_of file)) (head_of file) _ (made_refused (bundle_head_checks file) (head_of file) c.in_err-p.field-0.0 (sym (ap made c.in_err-p.was) ∙ head_is)))

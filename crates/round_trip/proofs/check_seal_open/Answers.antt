@@ -5,6 +5,8 @@ use Prim.Native.Nat.{ℕ}
 use borrow.Author.Rules.{rules}
 use lib.IntN.{ℤ}
 use lib.ListN.{length}
+use Rattle.refusals.specs.Outcomes.{number}
+use Rattle.refusals.proofs.Errors.{passed_on}
 use Rattle.refusals.specs.Outcomes.{Outcome, done}
 use Rattle.refusals.proofs.Checks.{gives_same}
 use Rattle.refusals.proofs.Numbers.{answer_refused}
@@ -37,5 +39,5 @@ returns c =
 pub returns-in_err-check_key : goal.returns-in_err-check_key
 unfolding round_trip checked_sealing
 returns-in_err-check_key c = let d = answer_refused (checks (goal.at.returns-in_err-check_key c).Start) c.check_key.result c.in_err-check_key.field-0.0 c.check_key.ensures.0 c.in_err-check_key.was in
-    let o = gives_same c.args.opened.now (ap (whole (goal.at.returns-in_err-check_key c).Start) d) (refl, refl) in
+    let o = gives_same c.args.opened.now (ap (whole (goal.at.returns-in_err-check_key c).Start) d) (ap number (passed_on _ _ c.from_residual.ensures.1), refl) in
     record { h_after = c.check_key.ensures.1; e_after = wrote_same c.args.e.now (ap (seals (goal.at.returns-in_err-check_key c).Start) d); gives = o; result_value = (λ l m. returns l c.args.opened.now m o) }

@@ -4,6 +4,8 @@ use mathlib.Core.List.{List}
 use borrow.Author.Rules.{rules}
 use lib.IntN.{ℤ}
 use lib.ListN.{length}
+use Rattle.refusals.specs.Outcomes.{number}
+use Rattle.refusals.proofs.Errors.{passed_on}
 use Rattle.refusals.specs.Outcomes.{Outcome, done}
 use Rattle.refusals.proofs.Checks.{gives_same}
 use Rattle.refusals.proofs.Numbers.{answer_refused}
@@ -38,5 +40,5 @@ pub returns-in_err-check_key : goal.returns-in_err-check_key
 unfolding checked_sealing checked_sealing_twice
 returns-in_err-check_key c = let d = answer_refused (checks (goal.at.returns-in_err-check_key c).Start) c.check_key.result c.in_err-check_key.field-0.0 c.check_key.ensures.0 c.in_err-check_key.was in
     let w = wrote_same c.args.e1.now (ap (seals (goal.at.returns-in_err-check_key c).Start) d) in
-    let o = gives_same c.args.e2.now (ap (whole (goal.at.returns-in_err-check_key c).Start) d) (refl, refl) in
+    let o = gives_same c.args.e2.now (ap (whole (goal.at.returns-in_err-check_key c).Start) d) (ap number (passed_on _ _ c.from_residual.ensures.1), refl) in
     record { h_after = c.check_key.ensures.1; e1_after = w; gives = o; result_value = (λ l l'. sealings_differ l l' w o) }

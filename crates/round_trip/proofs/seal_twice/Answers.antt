@@ -4,6 +4,8 @@ use mathlib.Core.List.{List}
 use borrow.Author.Rules.{rules}
 use lib.IntN.{ℤ}
 use lib.ListN.{length}
+use Rattle.refusals.specs.Outcomes.{number}
+use Rattle.refusals.proofs.Errors.{passed_on}
 use Rattle.refusals.specs.Outcomes.{Outcome, done}
 use Rattle.refusals.proofs.Checks.{gives_same}
 use Rattle.refusals.proofs.Numbers.{answer_refused}
@@ -31,4 +33,4 @@ returns c =
 pub returns-in_err-seal : goal.returns-in_err-seal
 unfolding sealing_twice
 returns-in_err-seal c = let d = answer_refused (seals (goal.at.returns-in_err-seal c).Start) c.seal.result c.in_err-seal.field-0.0 c.seal.ensures.0 c.in_err-seal.was in
-    record { e1_after = c.seal.ensures.1; gives = gives_same c.args.e2.now (ap (both (goal.at.returns-in_err-seal c).Start) d) (refl, refl) }
+    record { e1_after = c.seal.ensures.1; gives = gives_same c.args.e2.now (ap (both (goal.at.returns-in_err-seal c).Start) d) (ap number (passed_on _ _ c.from_residual.ensures.1), refl) }

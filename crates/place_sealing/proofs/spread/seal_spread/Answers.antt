@@ -7,6 +7,8 @@ use native.Mathlib.Omega.{arith}
 use lib.Dec.{eqb}
 use lib.IntN.{ℤ, pos}
 use lib.ListN.{length, take, replicate}
+use Rattle.refusals.specs.Outcomes.{number}
+use Rattle.refusals.proofs.Errors.{passed_on}
 use Rattle.integers.proofs.Tests.{equal_2, are_equal_4}
 use Rattle.refusals.specs.Outcomes.{refused, done, ◌if◌, Gives, Passes}
 use Rattle.refusals.specs.Numbers.{number_of}
@@ -73,9 +75,9 @@ returns c =
 
 pub returns-in_err-spread_places : goal.returns-in_err-spread_places
 returns-in_err-spread_places c =
-    let refusal = c.in_err-spread_places.refusal in
+    let refusal = c.in_err-spread_places.field-0.0 in
     let whole = part (goal.at.returns-in_err-spread_places c).Start c.zeros-room.result c.zeros-room.ensures in
     let refused-list = answer_refused _ c.spread_places.result refusal c.spread_places.ensures.0 c.in_err-spread_places.was in
     gives_same c.args.e.now
     (refused_so (set_of c.args.p) c.args.places.now c.args.h.now c.args.message.now _ (length c.args.e.now) (number_of refusal) c.requires whole (number_positive refusal) refused-list)
-    (refl, refl)
+    (ap number (passed_on _ _ c.from_residual.ensures.1), refl)
