@@ -5,7 +5,7 @@ use Prim.Native.Nat.{ℕ, zero, suc, ◌+◌, ◌≤◌, ◌<◌}
 use native.Mathlib.Omega.{arith}
 use native.Mathlib.Decide.{ℕ_discrete}
 use native.Mathlib.Numerals.{add-one}
-use Rattle.std.specs.List.{list_all, list_any, range_with_len}
+use Rattle.std.specs.List.{fold, list_all, list_any, count_by, range_with_len}
 use Rattle.integers.proofs.Tests.{and_false}
 use Rattle.eisenstein.specs.Values.{𝟘, ◌+ω◌}
 use Rattle.polynomials.specs.Polynomials.{Polynomial, sum, all, count}
@@ -59,6 +59,18 @@ all_from t a (suc n) =
 pub all_of_range : (t : ℕ → Bool) (n : ℕ) → list_all t (range_with_len 0 n) ≡ all n t
 unfolding all
 all_of_range t n = sym (all_from t 0 n) ∙ ap (λ (m : ℕ). all m t) {x = 0 + n} {y = n} (omega arith)
+
+count_from : (t : ℕ → Bool) (a n : ℕ) → count (a + n) t ≡ fold (λ k i. k + cond (t i) 1 0) (count a t) (range_with_len a n)
+unfolding count
+count_from t a zero = ap (λ (m : ℕ). count m t) {x = a + 0} {y = a} (omega arith)
+count_from t a (suc n) =
+    ap (λ (m : ℕ). count m t) {x = a + suc n} {y = a + 1 + n} (omega arith)
+    ∙ count_from t (a + 1) n
+    ∙ ap (λ (m : ℕ). fold (λ k i. k + cond (t i) 1 0) (count m t) (range_with_len (a + 1) n)) (add-one a)
+
+pub count_of_range : (t : ℕ → Bool) (n : ℕ) → count_by t (range_with_len 0 n) ≡ count n t
+unfolding count
+count_of_range t n = sym (count_from t 0 n) ∙ ap (λ (m : ℕ). count m t) {x = 0 + n} {y = n} (omega arith)
 
 -- whether a test from a on fails, where those below a pass
 pub any_of_range : (p t : ℕ → Bool) (a n : ℕ) → all a t ≡ true → ((k : ℕ) → a ≤ k → t k ≡ not (p k)) → list_any p (range_with_len a n) ≡ not (all (a + n) t)
