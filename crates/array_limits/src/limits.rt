@@ -17,9 +17,7 @@ pub(crate) fn numbers_within(x: &[i32], limit: i32) -> bool
 {
     let mut within = true;
     for z in x {
-        if is_beyond(*z, limit) {
-            within = false;
-        }
+        within &= !is_beyond(*z, limit);
     }
     within
 }
@@ -39,9 +37,7 @@ pub(crate) fn parts_together(x: &[i32], n: usize) -> bool
 {
     let mut together = true;
     for i in 0..n {
-        if parts_apart_at(x, i) {
-            together = false;
-        }
+        together &= !parts_apart_at(x, i);
     }
     together
 }

@@ -11,14 +11,12 @@ ghost use Rattle.key_check.specs.Conditions.{KeyArrays};
 use parameters::Parameters;
 use refusals::Refusal;
 
-// The first part of coefficient i of 1; the second is 0.
-fn one_at(i: usize) -> i64
-    ensures { (value result (pos 0) ≡ one i) × (nat_abs result ≤ 1) }
+// Whether coefficient i of x is that of 1.
+fn is_one_at(x: &[i32], i: usize) -> bool
+    requires { i < 2 ^ 32 }
+    ensures { result ≡ same (coefficient x.now i) (one i) }
 {
-    if i == 0 {
-        return 1;
-    }
-    0
+    arrays::coefficient_is(x, i as u32, i64::from(i == 0), 0)
 }
 
 // Whether x is 1.
@@ -26,15 +24,7 @@ fn is_one(x: &[i32], n: usize) -> bool
     requires { n < 2 ^ 32 }
     ensures { result ≡ all n (λ i. same (coefficient x.now i) (one i)) }
 {
-    let mut i = 0;
-    while i < n {
-        let u = one_at(i);
-        if !arrays::coefficient_is(x, i as u32, u, 0) {
-            return false;
-        }
-        i += 1;
-    }
-    true
+    (0..n).all(|i| is_one_at(x, i))
 }
 
 // The two products, each reduced, go to a lent array.

@@ -9,12 +9,7 @@ fn message_bit(n: usize, m: &[i32], k: usize) -> u32
     requires { (n ≤ 1024) × (length m.now ≡ 2 * n) }
     ensures { (result ≡ message_bit n (coefficient m.now) k) × (result < 2) }
 {
-    if k < 2 * n {
-        if eisenstein::odd(arrays::at(m, k)) {
-            return 1;
-        }
-    }
-    0
+    u32::from(k < 2 * n && eisenstein::odd(arrays::at(m, k)))
 }
 
 // Four bits of it, from bit k on, as a number.
@@ -43,10 +38,7 @@ pub(crate) fn unpack_into(n: usize, m: &[i32], message: &mut [u8])
     requires { (n ≤ 1024) × (length m.now ≡ 2 * n) × (length message.old ≡ message_bytes n) }
     ensures { message.new ≡ unpacked n (coefficient m.now) }
 {
-    let mut j = 0;
-    while j < message.len() {
-        let b = byte_of(n, m, j);
-        message[j] = b;
-        j += 1;
+    for (j, byte) in message.iter_mut().enumerate() {
+        *byte = byte_of(n, m, j);
     }
 }

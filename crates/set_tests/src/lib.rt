@@ -19,36 +19,24 @@ use eisenstein::{is_zero, modulus_out_of_range};
 pub fn units_only(x: &[i32], n: u32, t: u32) -> bool
     ensures { result ≡ (leb n 1024 && (full n (length x.now) && units_only n t (coefficient x.now))) }
 {
-    if zeros_and_units(x, n) {
-        return scans::count_nonzero(x, n as usize) == t as usize;
-    }
-    false
+    zeros_and_units(x, n) && scans::count_nonzero(x, n as usize) == t as usize
 }
 
 // The same of s, with equally many of units 0, 2 and 4, and equally many of units 1, 3 and 5.
 pub fn whole_triples(x: &[i32], n: u32, s: u32) -> bool
     ensures { result ≡ (leb n 1024 && (full n (length x.now) && whole_triples n s (coefficient x.now))) }
 {
-    if units_only(x, n, s) {
-        return scans::in_triples(x, n as usize);
-    }
-    false
+    units_only(x, n, s) && scans::in_triples(x, n as usize)
 }
 
 // Whether x is an array of N coefficients that are reduced modulo q = (c, d), where 2 and 21 do not refuse q.
 pub fn reduced_modulo_q(x: &[i32], n: u32, c: i32, d: i32) -> bool
     ensures { result ≡ (full n (length x.now) && (not (beyond 4095 (value c d)) && (not (same (value c d) 𝟘) && reduced_q n (value c d) (coefficient x.now)))) }
 {
-    if x.len() != 2 * (n as usize) {
-        return false;
-    }
-    if modulus_out_of_range(c, d) {
-        return false;
-    }
-    if is_zero(c as i64, d as i64) {
-        return false;
-    }
-    scans::all_reduced_modulo_q(x, n as usize, c, d)
+    x.len() == 2 * (n as usize)
+        && !modulus_out_of_range(c, d)
+        && !is_zero(i64::from(c), i64::from(d))
+        && scans::all_reduced_modulo_q(x, n as usize, c, d)
 }
 
 // Whether the first N coefficients are reduced modulo 2.

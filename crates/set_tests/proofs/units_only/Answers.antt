@@ -2,7 +2,6 @@
 use mathlib.Core.Path.{◌≡◌, refl, sym, ◌∙◌, ap}
 use mathlib.Core.Bool.{Bool, true, false, ◌&&◌}
 use Prim.Native.Nat.{ℕ, ◌*◌, ◌^◌, ◌<◌}
-use borrow.Author.Rules.{rules}
 use lib.Dec.{leb, eqb}
 use lib.ListN.{length}
 use Rattle.polynomials.specs.Polynomials.{coefficient, count, nonzero, units_only, zeros_and_units}
@@ -38,5 +37,5 @@ count_nonzero-requires c = array_of (goal.at.count_nonzero-requires c).Start (sy
 pub returns-then-zeros_and_units : goal.returns-then-zeros_and_units
 returns-then-zeros_and_units c = ap (λ (k : ℕ). eqb k c.args.t) c.count_nonzero.ensures ∙ together (goal.at.returns-then-zeros_and_units c).Start (sym c.zeros_and_units.ensures ∙ c.if-zeros_and_units.true)
 
-pub returns : goal.returns
-returns c = together (goal.at.returns c).Start (sym c.zeros_and_units.ensures ∙ c.if-zeros_and_units.false)
+pub returns-else-zeros_and_units : goal.returns-else-zeros_and_units
+returns-else-zeros_and_units c = c.if-zeros_and_units.false ∙ together (goal.at.returns-else-zeros_and_units c).Start (sym c.zeros_and_units.ensures ∙ c.if-zeros_and_units.false)

@@ -1,12 +1,10 @@
 -- `whole_triples` meets its contract.
 use mathlib.Core.Path.{◌≡◌, refl, sym, ◌∙◌, ap}
 use mathlib.Core.Bool.{Bool, true, false, ◌&&◌}
-use borrow.Author.Rules.{rules}
 use lib.Dec.{leb}
 use lib.ListN.{length}
 use Rattle.polynomials.specs.Polynomials.{coefficient, units_only, equally_many, whole_triples}
 use Rattle.arrays.specs.Arrays.{full}
-use Rattle.set_tests.proofs.Sized.{sized}
 use Rattle.set_tests.proofs.whole_triples.Goals as goal
 use Rattle.set_tests.proofs.whole_triples.Goals.{Start}
 
@@ -33,5 +31,5 @@ together s e = sym (ap (λ (b : Bool). b && rest s) e) ∙ counts_last (leb s.ar
 pub returns-then-units_only : goal.returns-then-units_only
 returns-then-units_only c = c.in_triples.ensures ∙ together (goal.at.returns-then-units_only c).Start (sym c.units_only.ensures ∙ c.if-units_only.true)
 
-pub returns : goal.returns
-returns c = together (goal.at.returns c).Start (sym c.units_only.ensures ∙ c.if-units_only.false)
+pub returns-else-units_only : goal.returns-else-units_only
+returns-else-units_only c = c.if-units_only.false ∙ together (goal.at.returns-else-units_only c).Start (sym c.units_only.ensures ∙ c.if-units_only.false)

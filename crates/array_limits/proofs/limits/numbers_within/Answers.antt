@@ -1,6 +1,6 @@
 -- `numbers_within` meets its contract. The loop's invariant: whether every number so far is within the limit.
-use mathlib.Core.Path.{◌≡◌, sym, ◌∙◌, ap, ap₂}
-use mathlib.Core.Bool.{Bool, not}
+use mathlib.Core.Path.{◌≡◌, ◌∙◌, ap, ap₂}
+use mathlib.Core.Bool.{not}
 use Prim.Native.Nat.{ℕ}
 use native.Mathlib.Omega.{arith}
 use borrow.Author.Rules.{rules}
@@ -12,9 +12,8 @@ use mir.Val.{to_z, of_z}
 use mir.Facts.{to_z-of_z}
 use Rattle.polynomials.specs.Polynomials.{all}
 use Rattle.arrays.specs.Arrays.{all_within}
-use Rattle.arrays.proofs.Scans.{every_none, every_passed, every_failed}
+use Rattle.arrays.proofs.Scans.{every_none, every_more}
 use Rattle.array_limits.proofs.limits.numbers_within.Goals as goal
-use Rattle.array_limits.proofs.limits.numbers_within.Goals.{then-is_beyond, else-is_beyond}
 use Rattle.array_limits.proofs.limits.numbers_within.Invariants.{test}
 
 pub loop-z-init : goal.loop-z-init
@@ -23,14 +22,8 @@ loop-z-init c = every_none (test (nat_abs (to_z w32 (of_z w32 c.args.limit))) c.
 pub loop-z-preserved : goal.loop-z-preserved
 loop-z-preserved c =
     let b : ℕ = nat_abs (to_z w32 (of_z w32 c.args.limit)) in
-    let t : ℕ → Bool = test b c.args.x.now in
     let k : ℕ = c.loop-z.z-index in
-    let beyond : ltb b (nat_abs (get_or c.args.x.now k (pos 0))) ≡ c.is_beyond.result =
-    sym (c.is_beyond.ensures ∙ ap (λ (z : ℤ). ltb b (nat_abs z)) (to_z-of_z {w = w32} {z = get_or c.args.x.now k (pos 0)} (search rules))) in
-    elim c.if-is_beyond.branch [
-      | then-is_beyond w ↦ w.within-is ∙ every_failed t k (ap not (beyond ∙ w.if-is_beyond.true))
-      | else-is_beyond w ↦ every_passed t k (w.within-is ∙ c.loop-z.invariant) (ap not (beyond ∙ w.if-is_beyond.false))
-    ]
+    every_more (test b c.args.x.now) k c.loop-z.invariant (ap not (c.is_beyond.ensures ∙ ap (λ (z : ℤ). ltb b (nat_abs z)) (to_z-of_z {w = w32} {z = get_or c.args.x.now k (pos 0)} (search rules))))
 
 pub returns : goal.returns
 unfolding all_within

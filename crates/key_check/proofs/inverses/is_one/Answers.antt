@@ -1,30 +1,17 @@
--- `is_one` meets its contract. The loop's invariant: every test so far has passed.
-use mathlib.Core.Path.{◌≡◌, sym, ◌∙◌, ap}
+-- `is_one` meets its contract.
+use mathlib.Core.Path.{refl, ◌∙◌}
 use mathlib.Core.Bool.{Bool}
-use mathlib.Core.List.{List}
-use Prim.Native.Nat.{ℕ, ◌-◌}
-use native.Mathlib.Omega.{arith}
-use borrow.Author.Tests.{not-true, not-false}
-use lib.IntN.{ℤ, pos}
-use Rattle.eisenstein.specs.Values.{value, same}
+use Prim.Native.Nat.{ℕ}
+use Rattle.std.proofs.Common.{arith, rules, tests}
+use Rattle.std.proofs.lemmas.Iterator.{YieldsList-from_range}
+use Rattle.std.proofs.lemmas.Iterator.Search.{all_from_yields_List}
+use Rattle.eisenstein.specs.Values.{same}
 use Rattle.polynomials.specs.Polynomials.{coefficient, one}
-use Rattle.arrays.proofs.Scans.{Scanned, scan_none, scan_more, scan_fails, scan_all}
-use Rattle.arrays.proofs.Sizes.{read_64}
+use Rattle.arrays.proofs.Scans.{all_of_range}
 use Rattle.key_check.proofs.inverses.is_one.Goals as goal
-use Rattle.key_check.proofs.inverses.is_one.Goals.{After-coefficient_is}
-use Rattle.key_check.proofs.inverses.is_one.Invariants.{test}
 
--- the test of coefficient i
-tested : (c : After-coefficient_is) → test c.args.x.now c.loop-i.i ≡ c.coefficient_is.result
-tested c =
-    let u = c.one_at-u in
-    sym (c.coefficient_is.ensures ∙ ap (same (coefficient c.args.x.now c.loop-i.i)) (ap (λ (z : ℤ). value z (pos 0)) (read_64 u.result u.ensures.1 tt) ∙ u.ensures.0))
-
-pub loop-i-init : goal.loop-i-init
-loop-i-init c = scan_none
-
-pub returns-then-not-coefficient_is : goal.returns-then-not-coefficient_is
-returns-then-not-coefficient_is c = scan_fails c.loop-i.invariant c.loop-i-test.true (tested (goal.at.returns-then-not-coefficient_is c).After-coefficient_is ∙ c.if-not-coefficient_is.true)
-
-pub loop-i-preserved : goal.loop-i-preserved
-loop-i-preserved c = scan_more c.loop-i.invariant c.loop-i-test.true (tested (goal.at.loop-i-preserved c).After-coefficient_is ∙ c.if-not-coefficient_is.false)
+pub returns : goal.returns
+returns c =
+    let test : ℕ → Bool = λ i. same (coefficient c.args.x.now i) (one i) in
+    all_from_yields_List test _ _ c.all.result c.all.ensures.ran (YieldsList-from_range 0 c.args.n c.args.n refl (omega arith)) (λ x b q k. search (rules, tests))
+    ∙ all_of_range test c.args.n

@@ -1,26 +1,19 @@
--- `all_reduced_modulo_2` meets its contract. The loop's invariant: every test so far has passed.
-use mathlib.Core.Path.{sym, ◌∙◌}
-use Prim.Native.Nat.{◌-◌}
-use native.Mathlib.Omega.{arith}
-use borrow.Author.Tests.{not-true, not-false}
+-- `all_reduced_modulo_2` meets its contract.
+use mathlib.Core.Path.{refl, ◌∙◌}
+use mathlib.Core.Bool.{Bool}
+use Prim.Native.Nat.{ℕ}
+use Rattle.std.proofs.Common.{arith, rules, tests}
+use Rattle.std.proofs.lemmas.Iterator.{YieldsList-from_range}
+use Rattle.std.proofs.lemmas.Iterator.Search.{all_from_yields_List}
 use Rattle.eisenstein.specs.Values.{same}
 use Rattle.eisenstein.specs.Reduction.{mod2}
 use Rattle.polynomials.specs.Polynomials.{coefficient, reduced2}
-use Rattle.arrays.proofs.Scans.{Scanned, scan_none, scan_more, scan_fails, scan_all}
+use Rattle.arrays.proofs.Scans.{all_of_range}
 use Rattle.set_tests.proofs.scans.all_reduced_modulo_2.Goals as goal
-
-pub loop-i-init : goal.loop-i-init
-unfolding reduced2
-loop-i-init c = scan_none
-
-pub returns-then-not-own_remainder_2_at : goal.returns-then-not-own_remainder_2_at
-unfolding reduced2
-returns-then-not-own_remainder_2_at c = scan_fails c.loop-i.invariant c.loop-i-test.true (sym c.own_remainder_2_at.ensures ∙ c.if-not-own_remainder_2_at.true)
-
-pub loop-i-preserved : goal.loop-i-preserved
-unfolding reduced2
-loop-i-preserved c = scan_more c.loop-i.invariant c.loop-i-test.true (sym c.own_remainder_2_at.ensures ∙ c.if-not-own_remainder_2_at.false)
 
 pub returns : goal.returns
 unfolding reduced2
-returns c = scan_all c.loop-i.invariant (omega (arith, c.loop-i-test.false))
+returns c =
+    let test : ℕ → Bool = λ i. same (mod2 (coefficient c.args.x.now i)) (coefficient c.args.x.now i) in
+    all_from_yields_List test _ _ c.all.result c.all.ensures.ran (YieldsList-from_range 0 c.args.n c.args.n refl (omega arith)) (λ x b q k. search (rules, tests))
+    ∙ all_of_range test c.args.n

@@ -1,30 +1,24 @@
--- `all_reduced_modulo_q` meets its contract. The loop's invariant: every test so far has passed.
-use mathlib.Core.Path.{sym, ◌∙◌, ap}
-use Prim.Native.Nat.{◌-◌}
-use native.Mathlib.Omega.{arith}
-use borrow.Author.Tests.{not-true, not-false}
+-- `all_reduced_modulo_q` meets its contract.
+use mathlib.Core.Path.{refl, ◌∙◌, ap}
+use mathlib.Core.Bool.{Bool}
+use Prim.Native.Nat.{ℕ}
 use mir.Syntax.{w32}
-use mir.Val.{to_z}
+use mir.Val.{to_z, of_z}
+use Rattle.std.proofs.Common.{arith, rules, tests}
+use Rattle.std.proofs.lemmas.Iterator.{YieldsList-from_range}
+use Rattle.std.proofs.lemmas.Iterator.Search.{all_from_yields_List}
 use Rattle.eisenstein.specs.Values.{ℤ[ω], value, same}
 use Rattle.eisenstein.specs.Reduction.{mod_q}
 use Rattle.eisenstein.proofs.Pairs.{pair_read}
 use Rattle.polynomials.specs.Polynomials.{coefficient, reduced_q}
-use Rattle.arrays.proofs.Scans.{Scanned, scan_none, scan_more, scan_fails, scan_all}
-use Rattle.arrays.proofs.Sizes.{modulus_handed}
+use Rattle.arrays.proofs.Scans.{all_of_range}
 use Rattle.set_tests.proofs.scans.all_reduced_modulo_q.Goals as goal
-
-pub loop-i-init : goal.loop-i-init
-unfolding reduced_q
-loop-i-init c = scan_none
-
-pub returns-then-not-own_remainder_q_at : goal.returns-then-not-own_remainder_q_at
-unfolding reduced_q
-returns-then-not-own_remainder_q_at c = scan_fails c.loop-i.invariant c.loop-i-test.true (sym c.own_remainder_q_at.ensures ∙ c.if-not-own_remainder_q_at.true) ∙ ap (λ (q : ℤ[ω]). reduced_q c.args.n q (coefficient c.args.x.now)) (pair_read c.ranges.c c.ranges.d)
-
-pub loop-i-preserved : goal.loop-i-preserved
-unfolding reduced_q
-loop-i-preserved c = scan_more c.loop-i.invariant c.loop-i-test.true (sym c.own_remainder_q_at.ensures ∙ c.if-not-own_remainder_q_at.false)
 
 pub returns : goal.returns
 unfolding reduced_q
-returns c = scan_all c.loop-i.invariant (omega (arith, c.loop-i-test.false)) ∙ ap (λ (q : ℤ[ω]). reduced_q c.args.n q (coefficient c.args.x.now)) (pair_read c.ranges.c c.ranges.d)
+returns c =
+    let q : ℤ[ω] = value (to_z w32 (of_z w32 c.args.c)) (to_z w32 (of_z w32 c.args.d)) in
+    let test : ℕ → Bool = λ i. same (mod_q q (coefficient c.args.x.now i)) (coefficient c.args.x.now i) in
+    all_from_yields_List test _ _ c.all.result c.all.ensures.ran (YieldsList-from_range 0 c.args.n c.args.n refl (omega arith)) (λ x b q k. search (rules, tests))
+    ∙ all_of_range test c.args.n
+    ∙ ap (λ (q : ℤ[ω]). reduced_q c.args.n q (coefficient c.args.x.now)) (pair_read c.ranges.c c.ranges.d)

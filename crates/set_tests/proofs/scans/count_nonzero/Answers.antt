@@ -1,23 +1,20 @@
 -- `count_nonzero` meets its contract.
-use mathlib.Core.Path.{sym, ◌∙◌}
+use mathlib.Core.Path.{◌∙◌}
 use mathlib.Core.Bool.{Bool}
-use mathlib.Core.List.{List}
-use Prim.Native.Nat.{ℕ, ◌-◌}
-use native.Mathlib.Omega.{arith}
-use lib.IntN.{ℤ}
+use Prim.Native.Nat.{ℕ}
+use Rattle.std.proofs.Common.{arith, rules, tests}
+use Rattle.std.proofs.lemmas.Iterator.{YieldsList-from_range}
+use Rattle.std.proofs.lemmas.Iterator.Consumers.{count_from_yields_List, YieldsList-from_filter}
+use Rattle.std.proofs.lemmas.List.Sums.{length-filter}
+use Rattle.std.specs.List.{range_with_len}
 use Rattle.polynomials.specs.Polynomials.{coefficient, nonzero}
-use Rattle.arrays.proofs.Scans.{Counted, counted_none, counted_passed, counted_failed, counted_all}
+use Rattle.arrays.proofs.Scans.{count_of_range}
 use Rattle.set_tests.proofs.scans.count_nonzero.Goals as goal
-use Rattle.set_tests.proofs.scans.count_nonzero.Goals.{then-nonzero_at, else-nonzero_at}
 
-pub loop-i-init : goal.loop-i-init
-loop-i-init c = counted_none
-
-pub loop-i-preserved : goal.loop-i-preserved
-loop-i-preserved c = let before = c.loop-i.invariant in
-    let taken = c.loop-i-test.true in
-    let e = sym c.nonzero_at.ensures in
-    elim c.if-nonzero_at.branch [
-      | then-nonzero_at w ↦ counted_passed before taken (e ∙ w.if-nonzero_at.true) w.k-is
-      | else-nonzero_at w ↦ counted_failed before taken (e ∙ w.if-nonzero_at.false) w.k-is
-    ]
+pub returns : goal.returns
+returns c =
+    let n = c.args.n in
+    let test : ℕ → Bool = λ i. nonzero (coefficient c.args.x.now i) in
+    count_from_yields_List c.filter.result c.count.result c.count.ensures.ran (YieldsList-from_filter _ test (YieldsList-from_range 0 n n c.filter.ensures.source (omega arith)) c.filter.ensures.closure (λ x b q k. search (rules, tests)))
+    ∙ length-filter test (range_with_len 0 n)
+    ∙ count_of_range test n

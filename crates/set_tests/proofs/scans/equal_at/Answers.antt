@@ -13,5 +13,5 @@ use Rattle.set_tests.proofs.scans.equal_at.Goals as goal
 pub returns : goal.returns
 unfolding same coefficient
 returns c = ap₂ ◌&&◌
-    (same_bits (get_or c.args.x.now (2 * c.args.i) (pos 0)) c.args.a (record { sfits = c.xa-1.given }) c.ranges.a)
-    (same_bits (get_or c.args.x.now (2 * c.args.i + 1) (pos 0)) c.args.b (record { sfits = c.xb-1.given }) c.ranges.b)
+    (same_bits (get_or c.args.x.now (2 * c.args.i) (pos 0)) c.args.a (search rules) c.ranges.a)
+    (same_bits (get_or c.args.x.now (2 * c.args.i + 1) (pos 0)) c.args.b (search rules) c.ranges.b)
