@@ -1,6 +1,5 @@
 -- `reduce_wrapped` meets its contract. The loop's invariant: the coefficients that are stored are right.
 use mathlib.Core.Path.{sym, ◌∙◌, ap, subst}
-use Prim.Native.Nat.{◌-◌, ◌≤◌}
 use native.Mathlib.Omega.{arith}
 use mir.Syntax.{w32}
 use mir.Val.{to_z, of_z}
@@ -8,7 +7,7 @@ use Rattle.eisenstein.specs.Values.{ℤ[ω], value}
 use Rattle.eisenstein.specs.Reduction.{mod_q}
 use Rattle.eisenstein.proofs.Pairs.{pair_read}
 use Rattle.polynomials.specs.Polynomials.{coefficient, array}
-use Rattle.arrays.proofs.Changing.{Changed, changed_none, stored_all}
+use Rattle.arrays.proofs.Changing.{stored_all}
 use Rattle.arrays.proofs.Sizes.{modulus_handed}
 use Rattle.halving.specs.Products.{wrapped}
 use Rattle.halved_products.specs.Conditions.{Reducible}
@@ -21,8 +20,8 @@ loop-i-preserved c = let taken = c.loop-i-test.true in
     let m = modulus_handed c.ranges.c c.ranges.d c.requires.n_bound.3 in
     let v = c.wrapped_at in
     let r = subst Reducible (sym v.ensures) (c.requires.by_index_2 c.loop-i.i taken) in
-    (omega (arith, taken), next_remainder c.loop-i.out c.loop-i.i q (value v.result.a v.result.b) m r c.loop-i.invariant.1 c.store_remainder.ensures (omega (arith, taken, c.loop-i.invariant.1.long, c.requires.n_bound.2)) (ap (mod_q q) v.ensures))
+    next_remainder c.loop-i.out c.loop-i.i q (value v.result.a v.result.b) m r c.loop-i.invariant c.store_remainder.ensures (omega (arith, taken, c.loop-i.invariant.long, c.requires.n_bound.2)) (ap (mod_q q) v.ensures)
 
 pub returns : goal.returns
-returns c = stored_all c.args.n c.loop-i.invariant.1 c.requires.n_bound.2 (omega (arith, c.loop-i-test.false))
+returns c = stored_all c.args.n c.loop-i.invariant c.requires.n_bound.2 (omega arith)
     ∙ ap (λ (q : ℤ[ω]). array c.args.n (λ i. mod_q q (wrapped c.args.n (coefficient c.args.w.now) i))) (pair_read c.ranges.c c.ranges.d)

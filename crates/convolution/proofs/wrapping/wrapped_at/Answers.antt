@@ -3,12 +3,11 @@ use mathlib.Core.Path.{ap₂}
 use mathlib.Core.List.{List, [], ◌∷◌}
 use Prim.Native.Nat.{◌+◌, ◌*◌, ◌^◌}
 use native.Mathlib.Omega.{arith}
-use borrow.Author.Rules.{rules}
 use lib.IntN.{pos}
 use lib.ListN.{get_or}
 use mir.Syntax.{w64}
 use Rattle.integers.proofs.Ring.{Expr, var, ◌⊕◌}
-use Rattle.integers.proofs.Machine.{Leaf, given, fits, exact}
+use Rattle.integers.proofs.Machine.{Leaf, given, exact}
 use Rattle.eisenstein.specs.Values.{value, ◌+ω◌}
 use Rattle.polynomials.specs.Polynomials.{coefficient}
 use Rattle.halving.specs.Products.{wrapped}
