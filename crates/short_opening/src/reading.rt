@@ -10,19 +10,6 @@ use opened_arrays::Opened;
 use refusals::Refusal;
 use short_messages::LastOne;
 
-// Copies the first bytes.
-fn copy_front(count: usize, from: &[u8], to: &mut [u8])
-    requires { (count ≤ length from.now) × (count ≤ length to.old) }
-    ensures { to.new ≡ take count from.now ++ drop count to.old }
-{
-    let mut i = 0;
-    while i < count {
-        let b = from[i];
-        to[i] = b;
-        i += 1;
-    }
-}
-
 // The bytes before the 1 at bit k, to the front of message, if a byte begins there.
 fn read_before(k: usize, bits: &[u8], message: &mut [u8]) -> Opened
     requires { (k / 8 ≤ length bits.now) × (k / 8 ≤ length message.old) }
@@ -32,7 +19,7 @@ fn read_before(k: usize, bits: &[u8], message: &mut [u8]) -> Opened
         return Opened::Refused(Refusal::NotAShortMessage);
     }
     let count = k / 8;
-    copy_front(count, bits, message);
+    message[..count].copy_from_slice(&bits[..count]);
     Opened::Message(count)
 }
 
