@@ -18,13 +18,10 @@ pub(crate) fn read_arrays(file: &[u8], numbers: &mut [i32])
     let width = 2 * (n as usize);
     let count = entry_count(file) as usize;
     let mut at = FIRST_ENTRY;
-    let mut k = 0;
-    while k < count {
+    for k in 0..count {
         let part = array_at(file, at);
         let from = width * k;
-        let to = from + width;
-        read_numbers(part, &mut numbers[from..to]);
+        read_numbers(part, &mut numbers[from..from + width]);
         at = next_at(file, at);
-        k += 1;
     }
 }

@@ -26,10 +26,7 @@ fn outputs_right(n: u32, file: &[u8], stops: usize, numbers: usize) -> bool
     ensures { result ≡ right_outputs n (count_of file.now) stops numbers }
 {
     let count = entry_count(file) as usize;
-    if stops == count {
-        return numbers == 2 * (n as usize) * count;
-    }
-    false
+    stops == count && numbers == 2 * (n as usize) * count
 }
 
 // The stops and the numbers, of a bundle whose head, count and length are right.

@@ -17,10 +17,7 @@ fn stands_at(bytes: &[u8], at: usize) -> bool
     ensures { result ≡ stands_at bytes.now at }
 {
     let n = coefficient_count(bytes);
-    if bytes.len() < at {
-        return false;
-    }
-    entry_length(n) <= bytes.len() - at
+    at <= bytes.len() && entry_length(n) <= bytes.len() - at
 }
 
 // The stop number of the entry at this place, or that no entry is left.

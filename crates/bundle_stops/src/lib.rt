@@ -3,7 +3,7 @@
 
 #![tactic(auto)]
 
-ghost use Rattle.std.specs.Prelude.{◌≡◌, ◌<◌, eqb, length, replicate};
+ghost use Rattle.std.specs.Prelude.{◌≡◌, ◌<◌, eqb, length};
 ghost use Rattle.unit_operands.specs.Operands.{Forms};
 ghost use Rattle.stop_sets.specs.Stops.{any_twice};
 ghost use Rattle.heads.specs.Heads.{head_of};
@@ -30,39 +30,19 @@ fn stop_of(file: &[u8], k: usize) -> u32
     stop_in(file, FIRST_ENTRY + width * k)
 }
 
-// From the last entry to the first, each stop goes into a set of those that were seen.
-fn seen_twice(file: &[u8], words: &mut [u32]) -> bool
-    requires { words.old ≡ replicate 2048 0 }
-    ensures { result ≡ any_twice (stops_of (entries_of file.now)) }
-{
-    let mut k = entry_count(file) as usize;
-    while 0 < k {
-        k -= 1;
-        let stop = stop_of(file, k);
-        if stop_sets::add(words, stop) {
-            return true;
-        }
-    }
-    false
-}
-
-// Whether a stop occurs twice. The set takes 8 KiB of stack.
+// Whether a stop occurs twice. The set of those that were seen takes 8 KiB of stack.
 pub fn any_stop_twice(file: &[u8]) -> bool
     ensures { result ≡ any_twice (stops_of (entries_of file.now)) }
 {
-    let mut words = stop_sets::no_stops();
-    seen_twice(file, &mut words[..])
+    stop_sets::any_twice_of(entry_count(file) as usize, |k| stop_of(file, k) as u16)
 }
 
 fn read_into(file: &[u8], stops: &mut [u32])
     requires { (length stops.old ≡ count_of file.now) × (count_of file.now < 65536) }
     ensures { stops.new ≡ stops_of (entries_of file.now) }
 {
-    let mut k = 0;
-    while k < stops.len() {
-        let stop = stop_of(file, k);
-        stops[k] = stop;
-        k += 1;
+    for (k, stop) in stops.iter_mut().enumerate() {
+        *stop = stop_of(file, k);
     }
 }
 

@@ -8,8 +8,5 @@ use bundles::right_length;
 pub(crate) fn lengths_right(n: u32, stops: usize, numbers: usize, room: usize) -> bool
     ensures { result ≡ right_given n stops numbers room }
 {
-    if !right_length(n, stops, room) {
-        return false;
-    }
-    numbers == 2 * (n as usize) * stops
+    right_length(n, stops, room) && numbers == 2 * (n as usize) * stops
 }

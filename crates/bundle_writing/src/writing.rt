@@ -20,8 +20,7 @@ fn write_entry(stop: u16, array: &[i32], out: &mut [u8])
     requires { (length out.old ≡ stop_length + 2 * length array.now) × Small array.now }
     ensures { out.new ≡ entry_bytes (entry_is stop array.now) }
 {
-    out[0] = (stop / 256) as u8;
-    out[1] = (stop % 256) as u8;
+    out[..STOP_BYTES].copy_from_slice(&stop.to_be_bytes());
     write_numbers(array, &mut out[STOP_BYTES..]);
 }
 
@@ -33,14 +32,14 @@ fn write_entries(n: u32, stops: &[u16], numbers: &[i32], out: &mut [u8])
 {
     let width = 2 * (n as usize);
     let entry_bytes = entry_length(n);
-    let mut k = 0;
-    while k < stops.len() {
+    for (k, stop) in stops.iter().enumerate() {
         let from = width * k;
-        let to = from + width;
         let at = entry_bytes * k;
-        let end = at + entry_bytes;
-        write_entry(stops[k], &numbers[from..to], &mut out[at..end]);
-        k += 1;
+        write_entry(
+            *stop,
+            &numbers[from..from + width],
+            &mut out[at..at + entry_bytes],
+        );
     }
 }
 
@@ -49,8 +48,7 @@ fn write_count(count: usize, file: &mut [u8])
     requires { (count < 65536) × (head_length + 1 < length file.old) }
     ensures { file.new ≡ sets file.old head_length (bytes16 count) }
 {
-    file[HEAD_BYTES] = (count / 256) as u8;
-    file[HEAD_BYTES + 1] = (count % 256) as u8;
+    file[HEAD_BYTES..FIRST_ENTRY].copy_from_slice(&(count as u16).to_be_bytes());
 }
 
 pub(crate) fn write_file(p: Parameters, stops: &[u16], numbers: &[i32], file: &mut [u8])

@@ -26,11 +26,7 @@ pub fn entry_length(n: u32) -> usize
 pub fn right_length(n: u32, count: usize, file: usize) -> bool
     ensures { result ≡ right_length n count file }
 {
-    if file > LONGEST_BUNDLE {
-        return false;
-    }
-    if count > LONGEST_BUNDLE {
-        return false;
-    }
-    file == FIRST_ENTRY + entry_length(n) * count
+    file <= LONGEST_BUNDLE
+        && count <= LONGEST_BUNDLE
+        && file == FIRST_ENTRY + entry_length(n) * count
 }

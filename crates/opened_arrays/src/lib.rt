@@ -3,7 +3,7 @@
 
 #![tactic(auto)]
 
-ghost use Rattle.std.specs.Prelude.{◌≡◌, min, length};
+ghost use Rattle.std.specs.Prelude.{◌≡◌, length};
 ghost use Rattle.refusals.specs.Numbers.{answered};
 ghost use Rattle.parameters.specs.Sets.{set_of};
 ghost use Rattle.packing.specs.Messages.{message_bytes};
@@ -14,15 +14,6 @@ ghost use Rattle.opened_arrays.specs.Openings.{opening_arrays, opening_with};
 use parameter_comparison::same_parameters;
 use parameters::Parameters;
 use refusals::Refusal;
-
-pub fn least(x: usize, y: usize) -> usize
-    ensures { result ≡ min x y }
-{
-    if x < y {
-        return x;
-    }
-    y
-}
 
 // The message goes to the front of a lent one. Only an N that is refused has a longer one.
 fn open_message(
@@ -36,7 +27,7 @@ fn open_message(
     ensures { GivesMessage (opening (set_of p) f.now f2.now e.now (message_bytes p.n)) result message.old message.new }
 {
     let n = p.n;
-    let k = least(packing::message_bytes(n), 256);
+    let k = packing::message_bytes(n).min(256);
     unsealing::open(p, f, f2, e, &mut message[..k])?;
     Ok(k)
 }
@@ -48,9 +39,9 @@ fn open_arrays(p: Parameters, numbers: &[i32], message: &mut [u8]) -> Result<usi
 {
     let n = p.n;
     let width = 2 * (n as usize);
-    let f_end = least(width, numbers.len());
-    let f2_end = least(2 * width, numbers.len());
-    let e_end = least(3 * width, numbers.len());
+    let f_end = width.min(numbers.len());
+    let f2_end = (2 * width).min(numbers.len());
+    let e_end = (3 * width).min(numbers.len());
     let f = &numbers[..f_end];
     let f2 = &numbers[f_end..f2_end];
     let e = &numbers[f2_end..e_end];

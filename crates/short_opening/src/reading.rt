@@ -3,34 +3,20 @@ ghost use Rattle.std.specs.Prelude.{◌≡◌, [], ◌∷◌, ◌++◌, ◌/◌,
 ghost use Rattle.refusals.specs.Outcomes.{outcome, ◌if◌};
 ghost use Rattle.packing.specs.Messages.{message_bytes};
 ghost use Rattle.opened_arrays.specs.Answers.{GivesMessage};
-ghost use Rattle.short_messages.specs.declared.LastOne.TheVariants.{At};
 ghost use Rattle.short_messages.specs.ShortMessages.{longest_short, ends_no_short, not_short, bytes_before, short_of};
 
 use refusals::Refusal;
 
-// Copies the first bytes.
-fn copy_front(count: usize, from: &[u8], to: &mut [u8])
-    requires { (count ≤ length from.now) × (count ≤ length to.old) }
-    ensures { to.new ≡ take count from.now ++ drop count to.old }
-{
-    let mut i = 0;
-    while i < count {
-        let b = from[i];
-        to[i] = b;
-        i += 1;
-    }
-}
-
 // The bytes before the 1 at bit k, to the front of message, if a byte begins there.
 fn read_before(k: usize, bits: &[u8], message: &mut [u8]) -> Result<usize, Refusal>
     requires { (k / 8 ≤ length bits.now) × (k / 8 ≤ length message.old) }
-    ensures { GivesMessage (outcome (27 if ends_no_short (At k) ∷ []) (bytes_before (At k) bits.now)) result message.old message.new }
+    ensures { GivesMessage (outcome (27 if ends_no_short (Some k) ∷ []) (bytes_before (Some k) bits.now)) result message.old message.new }
 {
     if k % 8 != 0 {
         return Err(Refusal::NotAShortMessage);
     }
     let count = k / 8;
-    copy_front(count, bits, message);
+    message[..count].copy_from_slice(&bits[..count]);
     Ok(count)
 }
 

@@ -3,7 +3,6 @@ use mathlib.Core.Path.{◌≡◌, refl, sym, ◌∙◌, ap}
 use mathlib.Core.Bool.{Bool, true, false}
 use Prim.Native.Nat.{ℕ, ◌+◌, ◌-◌, ◌≤◌}
 use native.Mathlib.Omega.{arith}
-use borrow.Author.Rules.{rules}
 use borrow.Author.Tests.{le-leb, lt-leb, leb-true, leb-false}
 use lib.Dec.{leb}
 use lib.ListN.{length}
@@ -18,11 +17,10 @@ left : (at long all : ℕ) → at ≤ all → (t : Bool) → leb (at + long) all
 left at long all h true e = le-leb long (all - at) (omega (arith, leb-true (at + long) all e))
 left at long all h false e = lt-leb long (all - at) (omega (arith, leb-false (at + long) all e))
 
-pub returns-then-bytes-at : goal.returns-then-bytes-at
+pub returns-then-at-bytes : goal.returns-then-at-bytes
 unfolding stands_at
-returns-then-bytes-at c = sym (stands_not c.args.bytes.now c.args.at (omega arith))
+returns-then-at-bytes c = ap (λ (long : ℕ). leb long (length c.args.bytes.now - c.args.at)) (c.entry_length.ensures ∙ ap entry_length c.coefficient_count-n.ensures.0)
+    ∙ left c.args.at (entry_length (head_of c.args.bytes.now).N) (length c.args.bytes.now) c.if-at-bytes.true _ refl
 
-pub returns : goal.returns
-unfolding stands_at
-returns c = ap (λ (long : ℕ). leb long (length c.args.bytes.now - c.args.at)) (c.entry_length.ensures ∙ ap entry_length c.coefficient_count-n.ensures.0)
-    ∙ left c.args.at (entry_length (head_of c.args.bytes.now).N) (length c.args.bytes.now) c.if-bytes-at.false _ refl
+pub returns-else-at-bytes : goal.returns-else-at-bytes
+returns-else-at-bytes c = lt-leb _ _ c.if-at-bytes.false ∙ sym (stands_not c.args.bytes.now c.args.at (omega arith))

@@ -1,13 +1,11 @@
 -- `open_arrays` meets its contract.
-use mathlib.Core.Path.{◌≡◌, sym}
+use mathlib.Core.Path.{◌≡◌}
 use mathlib.Core.List.{List}
 use Prim.Native.Nat.{ℕ, ◌-◌, ◌*◌, min}
 use native.Mathlib.Omega.{arith}
 use native.Mathlib.Nat.{mul-zero}
-use borrow.Author.Rules.{rules}
 use lib.IntN.{ℤ}
 use lib.ListN.{length, take, drop}
-use lib.Seq.{length-take-le}
 use Rattle.parameters.specs.Sets.{ParameterSet, set_of}
 use Rattle.packing.specs.Messages.{message_bytes}
 use Rattle.etru.specs.Calls.{opening}
@@ -31,5 +29,5 @@ returns c = let p = set_of c.args.p in
     let l = c.args.numbers.now in
     let w = 2 * c.args.p.n in
     gives_as
-    (λ i. opening p (first-is p l _ c.least-f_end.ensures i) (part_is p l 1 w (2 * w) _ _ c.least-f_end.ensures c.least-f2_end.ensures (omega arith) (omega arith) i) (part_is p l 2 (2 * w) (3 * w) _ _ c.least-f2_end.ensures c.least-e_end.ensures (omega arith) (omega arith) i) (message_bytes c.args.p.n))
+    (λ i. opening p (first-is p l _ c.min-f_end.ensures i) (part_is p l 1 w (2 * w) _ _ c.min-f_end.ensures c.min-f2_end.ensures (omega arith) (omega arith) i) (part_is p l 2 (2 * w) (3 * w) _ _ c.min-f2_end.ensures c.min-e_end.ensures (omega arith) (omega arith) i) (message_bytes c.args.p.n))
     c.open_message.ensures

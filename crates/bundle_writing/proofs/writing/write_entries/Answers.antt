@@ -17,7 +17,7 @@ use Rattle.bundle_writing.proofs.writing.write_entries.Goals as goal
 
 pub loop-k-init : goal.loop-k-init
 unfolding entries_bytes
-loop-k-init c = (omega arith, sym (ap (λ (i : ℕ). drop i c.args.out.now) (mul-zero (entry_length c.args.n))))
+loop-k-init c = sym (ap (λ (i : ℕ). drop i c.args.out.now) (mul-zero (entry_length c.args.n)))
 
 pub write_entry-requires : goal.write_entry-requires
 unfolding entries_bytes
@@ -38,7 +38,7 @@ write_entry-requires c =
     let within_entries : k < length es = subst (λ (m : ℕ). k < m) (sym (given_count n c.args.stops.now c.args.numbers.now)) within in
     let full : Full n es = given_full n c.args.stops.now c.args.numbers.now c.requires.numbers_len.0 in
     let long_so_far : length (entries_bytes (take k es)) ≡ entry_length n * k = bytes_before_lem n es k full (omega (arith, within_entries)) in
-    let same_length : length c.loop-k.out ≡ length c.args.out.now = ap (λ (x : List ℕ). length x) c.loop-k.invariant.1
+    let same_length : length c.loop-k.out ≡ length c.args.out.now = ap (λ (x : List ℕ). length x) c.loop-k.invariant
     ∙ length-append (entries_bytes (take k es)) (drop (entry_length n * k) c.args.out.now)
     ∙ omega (arith, long_so_far, length-drop (entry_length n * k) c.args.out.now, entry_ends, at_is) in
     let room_long : length room ≡ long = let e : long * k + long - long * k ≡ long = omega arith in
@@ -64,15 +64,15 @@ loop-k-preserved c =
     c.write_entry.ensures ∙ ap (λ (x : List ℤ). entry_bytes (entry_is (get_or c.args.stops.now k 0) x)) array-is ∙ ap entry_bytes (sym (given_entry n c.args.stops.now c.args.numbers.now k within)) in
     let width : long * k + long - long * k ≡ entry_length n = omega (arith, long_is) in
     ap₂ (λ (a : ℕ) (x : List ℕ). take a c.loop-k.out ++ (x ++ drop (long * k + long - long * k) (drop a c.loop-k.out))) at_is entry
-    ∙ put_next (entry_length n) k _ c.args.out.now (entries_bytes (take k es)) c.loop-k.out (entry_bytes (get_or es k (entry_is 0 []))) c.loop-k.invariant.1 long_so_far width
+    ∙ put_next (entry_length n) k _ c.args.out.now (entries_bytes (take k es)) c.loop-k.out (entry_bytes (get_or es k (entry_is 0 []))) c.loop-k.invariant long_so_far width
     ∙ ap (λ (x : List ℕ). x ++ drop (entry_length n * (k + 1)) c.args.out.now) (sym (bytes_next es k within_entries)) in
-    (omega (arith, within), put)
+    put
 
 pub returns : goal.returns
 unfolding entries_bytes
 returns c =
     let all-written : c.loop-k.out ≡ entries_bytes (entries_given c.args.n c.args.stops.now c.args.numbers.now) = let es = entries_given c.args.n c.args.stops.now c.args.numbers.now in
-    let last : c.loop-k.k ≡ length c.args.stops.now = omega (arith, c.loop-k.invariant.0, c.loop-k-test.false) in
-    put_all (entry_length c.args.n) c.loop-k.k c.args.out.now (entries_bytes (take c.loop-k.k es)) c.loop-k.out c.loop-k.invariant.1 (c.requires.numbers_len.1 ∙ ap (λ (m : ℕ). entry_length c.args.n * m) (sym last))
+    let last : c.loop-k.k ≡ length c.args.stops.now = omega (arith, c.loop-k-test.false) in
+    put_all (entry_length c.args.n) c.loop-k.k c.args.out.now (entries_bytes (take c.loop-k.k es)) c.loop-k.out c.loop-k.invariant (c.requires.numbers_len.1 ∙ ap (λ (m : ℕ). entry_length c.args.n * m) (sym last))
     ∙ ap entries_bytes (take_all c.loop-k.k es (omega (arith, last, given_count c.args.n c.args.stops.now c.args.numbers.now))) in
     all-written

@@ -1,10 +1,8 @@
 -- `read_before` meets its contract.
 use mathlib.Core.Path.{◌≡◌, sym, ◌∙◌, ap}
 use mathlib.Core.Bool.{not}
-use mathlib.Core.List.{[], ◌++◌}
+use mathlib.Core.List.{List, [], ◌++◌}
 use Prim.Native.Nat.{ℕ, ◌/◌, ◌%◌}
-use native.Mathlib.Omega.{arith}
-use borrow.Author.Rules.{rules}
 use borrow.Author.Tests.{eq-eqb, ne_eqb}
 use lib.ListN.{length, take, drop}
 use lib.Seq.{length-take-le}
@@ -21,4 +19,4 @@ returns c = let count = c.args.k / 8 in
     let short = take count c.args.bits.now in
     let long : length short ≡ count = length-take-le count c.args.bits.now c.requires.0 in
     gives_as (sym (passed 27 [] short (ap not (eq-eqb (c.args.k % 8) 0 c.if-k-ne0.false)) ∙ none_left short))
-    (record { answer = ap done (sym long); left = c.copy_front.ensures ∙ ap (λ (k : ℕ). short ++ drop k c.args.message.now) (sym long) })
+    (record { answer = ap done (sym long); left = ap (λ (l : List ℕ). l ++ drop count c.args.message.now) c.copy_from_slice.ensures.after ∙ ap (λ (k : ℕ). short ++ drop k c.args.message.now) (sym long) })
