@@ -5,7 +5,7 @@ use mathlib.Core.List.{List, ◌++◌}
 use Prim.Native.Nat.{ℕ}
 use lib.IntN.{ℤ}
 use Rattle.refusals.specs.Outcomes.{Outcome, done, refused, number, written}
-use Rattle.refusals.specs.Numbers.{number_of}
+use Rattle.refusals.specs.Numbers.{number_of, answered}
 use Rattle.refusals.specs.declared.Refusal.{Refusal}
 use Rattle.refusals.proofs.Checks.{done_as_written}
 use Rattle.parameters.specs.Sets.{ParameterSet, parameter_checks}
@@ -21,6 +21,10 @@ gives_as {old = old} e g = record {
 
 pub gives_refusal : {o : Outcome (List ℕ)} {r : Refusal} {old : List ℕ} → refused (number_of r) ≡ o → GivesMessage o (Err r) old old
 gives_refusal e = gives_as e (record { answer = refl; left = refl })
+
+-- of a result that is this refusal
+pub gives_err : {o : Outcome (List ℕ)} {r : Result ℕ Refusal} {e : Refusal} {old : List ℕ} → r ≡ Err e → refused (number_of e) ≡ o → GivesMessage o r old old
+gives_err {r = r} h f = gives_as f (record { answer = ap answered h; left = refl })
 
 -- what opening wrote, where its number is 0
 pub opening_done : (p : ParameterSet) (f F2 e : List ℤ) (room : ℕ) (old new : List ℕ) → number (opening p f F2 e room) ≡ 0 → new ≡ written (opening p f F2 e room) old → opening p f F2 e room ≡ done new

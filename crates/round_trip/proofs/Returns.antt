@@ -51,8 +51,8 @@ round_trip_returns p f F2 Fq g h φ message key ephemeral msg =
 -- of the calls, from what their outputs hold
 
 module _ {p : ParameterSet} {f F2 Fq g φ : List ℤ} {message : List ℕ} {h e : List ℤ} (l : Lent p f F2 Fq g φ message h e) where
-  pub returns : (opened : List ℕ) → length opened ≡ message_bytes p.N → {answer : ℕ} {opened' : List ℕ} → Gives (round_trip p f F2 Fq g φ message (length h) (length e) (length opened)) answer opened opened' → (answer ≡ 0) × (opened' ≡ message)
-  returns opened m o =
+  pub message_returns : (opened : List ℕ) → length opened ≡ message_bytes p.N → {answer : ℕ} {opened' : List ℕ} → Gives (round_trip p f F2 Fq g φ message (length h) (length e) (length opened)) answer opened opened' → (answer ≡ 0) × (opened' ≡ message)
+  message_returns opened m o =
       let d : round_trip p f F2 Fq g φ message (length h) (length e) (length opened) ≡ done message = rw (l.h_full, l.e_full, m) (round_trip_returns p f F2 Fq g l.key φ message l.accepted l.ephemeral l.a_message) in
       gives_same opened (sym d) o
 

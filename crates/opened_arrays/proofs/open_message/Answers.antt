@@ -1,4 +1,5 @@
 -- `open_message` meets its contract.
+use Rattle.refusals.proofs.Errors.{err_is}
 use Rattle.std.specs.Prelude.{Result}
 use Rattle.refusals.specs.declared.Refusal.{Refusal}
 use mathlib.Core.Path.{◌≡◌, refl, sym, ◌∙◌, ap}
@@ -60,4 +61,4 @@ returns-in_err-open c =
     let n = c.in_err-open.field-0.0 in
     let o = answer_refused (outcome_of (goal.at.returns-in_err-open c).Start) c.open.result n number_is c.in_err-open.was in
     let same : new ≡ take k old = new_is ∙ ap (λ (x : Outcome (List ℕ)). written x (take k old)) o in
-    gives_as (sym o) (record { answer = refl; left = ap (λ (l : List ℕ). l ++ drop k old) same ∙ take-append-drop k old })
+    gives_as (sym o) (record { answer = ap answered (err_is _ _ c.from_residual.ensures.1); left = ap (λ (l : List ℕ). l ++ drop k old) same ∙ take-append-drop k old })

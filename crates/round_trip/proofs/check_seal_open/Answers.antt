@@ -13,7 +13,7 @@ use Rattle.refusals.proofs.Numbers.{answer_refused}
 use Rattle.parameters.specs.Sets.{set_of}
 use Rattle.etru.specs.Calls.{key_check, sealing, opening}
 use Rattle.round_trip.specs.RoundTrip.{next, checked_sealing, round_trip}
-use Rattle.round_trip.proofs.Returns.{wrote_same, key_done, returns}
+use Rattle.round_trip.proofs.Returns.{wrote_same, key_done, message_returns}
 use Rattle.round_trip.proofs.check_seal_open.Goals as goal
 use Rattle.round_trip.proofs.check_seal_open.Goals.{Start}
 
@@ -34,10 +34,10 @@ returns c =
     let d = checked_is in
     let k = c.seal_and_open.ensures in
     let o = gives_same c.args.opened.now (ap (whole (goal.at.returns c).Start) d) k.gives in
-    record { h_after = wrote_same c.args.h.now d; e_after = k.e_after ∙ wrote_same c.args.e.now (ap (seals (goal.at.returns c).Start) d); gives = o; result_value = (λ l m. returns l c.args.opened.now m o) }
+    record { h_after = wrote_same c.args.h.now d; e_after = k.e_after ∙ wrote_same c.args.e.now (ap (seals (goal.at.returns c).Start) d); gives = o; result_value = (λ l m. message_returns l c.args.opened.now m o) }
 
 pub returns-in_err-check_key : goal.returns-in_err-check_key
 unfolding round_trip checked_sealing
 returns-in_err-check_key c = let d = answer_refused (checks (goal.at.returns-in_err-check_key c).Start) c.check_key.result c.in_err-check_key.field-0.0 c.check_key.ensures.0 c.in_err-check_key.was in
     let o = gives_same c.args.opened.now (ap (whole (goal.at.returns-in_err-check_key c).Start) d) (ap number (passed_on _ _ c.from_residual.ensures.1), refl) in
-    record { h_after = c.check_key.ensures.1; e_after = wrote_same c.args.e.now (ap (seals (goal.at.returns-in_err-check_key c).Start) d); gives = o; result_value = (λ l m. returns l c.args.opened.now m o) }
+    record { h_after = c.check_key.ensures.1; e_after = wrote_same c.args.e.now (ap (seals (goal.at.returns-in_err-check_key c).Start) d); gives = o; result_value = (λ l m. message_returns l c.args.opened.now m o) }

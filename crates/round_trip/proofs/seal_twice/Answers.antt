@@ -28,7 +28,7 @@ unfolding sealing_twice
 returns c =
     let sealed-is : seals (goal.at.returns c).Start ≡ done c.seal.new.e = sealing_done (set_of c.args.p) c.args.h.now c.args.phi1.now c.args.message1.now (length c.args.e1.now) c.args.e1.now _ c.seal.result c.in_ok-seal.was c.seal.ensures in
     let d = sealed-is in
-    record { e1_after = wrote_same c.args.e1.now d; gives = gives_same c.args.e2.now (ap (both (goal.at.returns c).Start) d) c.seal-in_ok-seal.ensures }
+    record { e1_after = wrote_same c.args.e1.now d; gives = gives_same c.args.e2.now (ap (both (goal.at.returns c).Start) d) c.seal-2.ensures }
 
 pub returns-in_err-seal : goal.returns-in_err-seal
 unfolding sealing_twice
