@@ -10,7 +10,7 @@ ghost use Rattle.lines.specs.Lines.{line_of};
 ghost use Rattle.opening.specs.Program.{opening_line, line_writing, line_length, opened_is};
 
 use lines::LINE_BYTES;
-use opened_arrays::{Opened, least};
+use opened_arrays::Opened;
 use opened_files::open_input;
 use refusals::{Answer, Refusal};
 
@@ -27,7 +27,7 @@ fn write_opened(opened: Opened, message: &[u8], line: &mut [u8]) -> usize
     match opened {
         Opened::Message(n) => {
             // No message is longer than its room.
-            let end = least(n, message.len());
+            let end = n.min(message.len());
             lines::write_message(&message[..end], line)
         }
         Opened::Refused(refusal) => lines::write_refusal(refusal, line),
