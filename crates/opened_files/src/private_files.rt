@@ -8,7 +8,6 @@ ghost use Rattle.opened_arrays.specs.Answers.{GivesMessage};
 ghost use Rattle.opened_files.specs.Pairs.{opening_pair, opening_files};
 
 use crate::sealed_files::open_sealed;
-use opened_arrays::least;
 use parameters::Parameters;
 use refusals::Refusal;
 
@@ -33,7 +32,7 @@ fn open_private_in(
 fn first_end(n: u32, all: usize) -> usize
     ensures { result ≡ min (file_bytes 2 n) all }
 {
-    least(files::file_bytes(heads::kinds::PRIVATE, n), all)
+    files::file_bytes(heads::kinds::PRIVATE, n).min(all)
 }
 
 pub(crate) fn open_private(

@@ -10,7 +10,6 @@ ghost use Rattle.lines.specs.Lines.{line_of};
 ghost use Rattle.opening.specs.Program.{opening_line, line_writing, line_length, opened_is};
 
 use lines::LINE_BYTES;
-use opened_arrays::least;
 use opened_files::open_input;
 use refusals::Refusal;
 
@@ -27,7 +26,7 @@ fn write_opened(opened: Result<usize, Refusal>, message: &[u8], line: &mut [u8])
     match opened {
         Ok(n) => {
             // No message is longer than its room.
-            let end = least(n, message.len());
+            let end = n.min(message.len());
             lines::write_message(&message[..end], line)
         }
         Err(refusal) => lines::write_refusal(refusal, line),

@@ -29,11 +29,11 @@ as_line l l' old {r} e h g =
 
 pub returns-in-Ok : goal.returns-in-Ok
 returns-in-Ok c =
-    let short : c.least-end.result ≤ length c.args.message.now = subst (λ (k : ℕ). k ≤ length c.args.message.now) (sym c.least-end.ensures) (min-le_right c.in-Ok.n (length c.args.message.now)) in
-    let part : length (take c.least-end.result c.args.message.now) ≡ c.least-end.result = length-take-le c.least-end.result c.args.message.now short in
+    let short : c.min-end.result ≤ length c.args.message.now = subst (λ (k : ℕ). k ≤ length c.args.message.now) (sym c.min-end.ensures) (min-le_right c.in-Ok.n (length c.args.message.now)) in
+    let part : length (take c.min-end.result c.args.message.now) ≡ c.min-end.result = length-take-le c.min-end.result c.args.message.now short in
     let m = c.args.message.now in
-    let m' = take c.least-end.result m in
-    let e : line_of (done m') ≡ line (goal.at.returns-in-Ok c).Start c.args.opened = ap (λ (x : List ℕ). line_of (done x)) (ap (λ (k : ℕ). take k m) c.least-end.ensures ∙ end_taken c.in-Ok.n m) ∙ sym (ap (line (goal.at.returns-in-Ok c).Start) c.in-Ok.is) in
+    let m' = take c.min-end.result m in
+    let e : line_of (done m') ≡ line (goal.at.returns-in-Ok c).Start c.args.opened = ap (λ (x : List ℕ). line_of (done x)) (ap (λ (k : ℕ). take k m) c.min-end.ensures ∙ end_taken c.in-Ok.n m) ∙ sym (ap (line (goal.at.returns-in-Ok c).Start) c.in-Ok.is) in
     as_line (line_of (done m')) (line (goal.at.returns-in-Ok c).Start c.args.opened) c.args.line.now e (omega (arith, message_length m', part, short, c.requires.0, c.requires.1)) c.write_message.ensures
 
 pub returns-in-Err : goal.returns-in-Err
