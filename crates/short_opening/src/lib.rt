@@ -61,9 +61,8 @@ pub fn open_short(
 ) -> Result<usize, Refusal>
     ensures { GivesMessage (short_opening (set_of p) f.now f2.now e.now (length message.old)) result message.old message.new }
 {
-    let n = p.n;
-    let right = message.len() == short_messages::longest_short(n);
     p.check()?;
+    let right = message.len() == short_messages::longest_short(p.n);
     Refusal::WrongLength.when(!right)?;
     open_checked(p, f, f2, e, message)
 }

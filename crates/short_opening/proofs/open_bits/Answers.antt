@@ -1,4 +1,5 @@
 -- `open_bits` meets its contract: what opening in full leaves is read as a short message.
+use Rattle.refusals.proofs.Errors.{err_is}
 use Rattle.std.specs.Prelude.{Result}
 use Rattle.refusals.specs.declared.Refusal.{Refusal}
 use mathlib.Core.Path.{◌≡◌, sym, ◌∙◌, ap}
@@ -13,7 +14,7 @@ use Rattle.refusals.proofs.Numbers.{answer_refused}
 use Rattle.parameters.specs.Sets.{ParameterSet, set_of}
 use Rattle.packing.specs.Messages.{message_bytes}
 use Rattle.etru.specs.Calls.{opening}
-use Rattle.opened_arrays.proofs.Answers.{gives_as, gives_refusal, opening_done}
+use Rattle.opened_arrays.proofs.Answers.{gives_as, gives_err, opening_done}
 use Rattle.short_messages.specs.ShortMessages.{longest_short}
 use Rattle.short_scheme.specs.Calls.{short_opening}
 use Rattle.short_scheme.proofs.Promises.{readings_agree}
@@ -49,4 +50,4 @@ returns-in_err-open c =
     let number_is : number (answered c.open.result) ≡ number (in_full (goal.at.returns-in_err-open c).Start) = c.open.ensures.0 ∙ ap number (room (goal.at.returns-in_err-open c).Start) in
     let n = c.in_err-open.field-0.0 in
     let o = answer_refused (in_full (goal.at.returns-in_err-open c).Start) c.open.result n number_is c.in_err-open.was in
-    gives_refusal (sym (lent (goal.at.returns-in_err-open c).Start ∙ (readings_agree (P (goal.at.returns-in_err-open c).Start) c.args.f.now c.args.f2.now c.args.e.now).refused_alike (number_of n) o))
+    gives_err (err_is _ _ c.from_residual.ensures.1) (sym (lent (goal.at.returns-in_err-open c).Start ∙ (readings_agree (P (goal.at.returns-in_err-open c).Start) c.args.f.now c.args.f2.now c.args.e.now).refused_alike (number_of n) o))

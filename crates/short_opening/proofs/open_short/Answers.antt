@@ -7,11 +7,12 @@ use borrow.Author.Rules.{rules}
 use lib.Dec.{eqb, eqb→eq}
 use lib.IntN.{ℤ}
 use lib.ListN.{length}
+use Rattle.refusals.proofs.Errors.{err_is}
 use Rattle.refusals.specs.Outcomes.{Check, Outcome, done, refused, outcome, number, ◌if◌}
 use Rattle.refusals.specs.Numbers.{number_of, answered}
 use Rattle.refusals.proofs.Checks.{never_done, done_all, done_holds, passed_all, refused_first, and_checks}
 use Rattle.parameters.specs.Sets.{ParameterSet, set_of, parameter_checks}
-use Rattle.opened_arrays.proofs.Answers.{gives_refusal}
+use Rattle.opened_arrays.proofs.Answers.{gives_err}
 use Rattle.short_messages.specs.ShortMessages.{longest_short}
 use Rattle.short_scheme.specs.Calls.{short_opening_checks, short_opening}
 use Rattle.short_opening.proofs.open_short.Goals as goal
@@ -36,17 +37,24 @@ refused_early p f F2 e room n h = go (outcome (parameter_checks p) (tt {0})) ref
 
 pub open_checked-requires : goal.open_checked-requires
 open_checked-requires c =
-    let answer_is : answered c.and.result ≡ outcome (first_checks (set_of c.args.p) (length c.args.message.now)) (tt {0}) = c.and.ensures
-    ∙ and_checks (parameter_checks (set_of c.args.p)) (7 if not (eqb (length c.args.message.now) (longest_short c.args.p.n)) ∷ []) tt c.check.ensures
-    (c.when.ensures ∙ ap (λ (k : ℕ). outcome (7 if not (eqb (length c.args.message.now) k) ∷ []) (tt {0})) c.longest_short.ensures) in
+    let p = set_of c.args.p in
     let room = length c.args.message.now in
-    let d = done_all (parameter_checks (set_of c.args.p)) _ _ _ (sym answer_is ∙ ap answered c.in-Ok.is) in
-    (d.0, eqb→eq room (longest_short c.args.p.n) (done_holds 7 (eqb room (longest_short c.args.p.n)) [] _ _ d.1).0)
+    let passes = and_checks (parameter_checks p) (7 if not (eqb room (longest_short p.N)) ∷ []) tt c.in_ok-check.ensures
+    (c.in_ok-when.ensures ∙ ap (λ (k : ℕ). outcome (7 if not (eqb room k) ∷ []) (tt {0})) c.longest_short.ensures) in
+    let d = done_all (parameter_checks p) _ _ _ (sym passes) in
+    (d.0, eqb→eq room (longest_short p.N) (done_holds 7 (eqb room (longest_short p.N)) [] _ _ d.1).0)
 
-pub returns-in-Err : goal.returns-in-Err
-returns-in-Err c =
-    let answer_is : answered c.and.result ≡ outcome (first_checks (set_of c.args.p) (length c.args.message.now)) (tt {0}) = c.and.ensures
-    ∙ and_checks (parameter_checks (set_of c.args.p)) (7 if not (eqb (length c.args.message.now) (longest_short c.args.p.n)) ∷ []) tt c.check.ensures
-    (c.when.ensures ∙ ap (λ (k : ℕ). outcome (7 if not (eqb (length c.args.message.now) k) ∷ []) (tt {0})) c.longest_short.ensures) in
-    let n = c.in-Err.refusal in
-    gives_refusal (sym (refused_early (set_of c.args.p) c.args.f.now c.args.f2.now c.args.e.now (length c.args.message.now) (number_of n) (sym answer_is ∙ ap answered c.in-Err.is)))
+pub returns-in_err-check : goal.returns-in_err-check
+returns-in_err-check c =
+    let p = set_of c.args.p in
+    gives_err (err_is _ _ c.from_residual.ensures.1)
+    (sym (refused_early p c.args.f.now c.args.f2.now c.args.e.now (length c.args.message.now) _ (refused_first (parameter_checks p) _ tt _ (sym c.in_err-check.ensures))))
+
+pub returns-in_err-when : goal.returns-in_err-when
+returns-in_err-when c =
+    let p = set_of c.args.p in
+    let room = length c.args.message.now in
+    let stops = and_checks (parameter_checks p) (7 if not (eqb room (longest_short p.N)) ∷ []) tt c.in_ok-check.ensures
+    (c.in_err-when.ensures ∙ ap (λ (k : ℕ). outcome (7 if not (eqb room k) ∷ []) (tt {0})) c.longest_short.ensures) in
+    gives_err (err_is _ _ c.from_residual-in_err-when.ensures.1)
+    (sym (refused_early p c.args.f.now c.args.f2.now c.args.e.now room _ (sym stops)))

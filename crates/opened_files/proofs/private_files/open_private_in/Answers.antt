@@ -7,13 +7,14 @@ use borrow.Author.Rules.{rules}
 use lib.IntN.{ℤ}
 use lib.ListN.{length, take, drop, length-append, length-drop}
 use lib.Seq.{length-take-le, take_at}
+use Rattle.refusals.proofs.Errors.{err_is}
 use Rattle.refusals.proofs.Checks.{passed_all}
 use Rattle.parameters.specs.Sets.{ParameterSet, set_of}
 use Rattle.files.specs.Files.{file_numbers}
 use Rattle.files.proofs.Bounds.{numbers_few}
 use Rattle.opened_files.specs.Pairs.{file_checks, opening_pair}
 use Rattle.opened_files.specs.Steps.{opening_sealed, KeyRead, key_in}
-use Rattle.opened_arrays.proofs.Answers.{gives_as, gives_refusal}
+use Rattle.opened_arrays.proofs.Answers.{gives_as, gives_err}
 use Rattle.opened_files.proofs.InputParts.{pair_refused}
 use Rattle.opened_files.proofs.ReadFiles.{Read, accepted, N_small, file_read, file_refused}
 use Rattle.opened_files.proofs.private_files.open_private_in.Goals as goal
@@ -67,4 +68,4 @@ returns-in_err-read c =
     let front : List ℤ = take c.file_numbers-k.result c.args.numbers.now in
     let within : c.file_numbers-k.result ≤ length c.args.numbers.now = omega (arith, c.file_numbers-k.ensures, numbers_few 2 c.args.p.n (N_small 2 c.args.first.now (set_of c.args.p) c.requires.0)) in
     let room : length front ≡ file_numbers 2 c.args.p.n = length-take-le _ c.args.numbers.now within ∙ c.file_numbers-k.ensures in
-    gives_refusal (sym (pair_refused c.args.first.now _ c.in_err-read.field-0.0 (file_refused 2 c.args.first.now (set_of c.args.p) c.requires.0 front _ c.read.ensures.0 room c.in_err-read.field-0.0 c.in_err-read.was)))
+    gives_err (err_is _ _ c.from_residual.ensures.1) (sym (pair_refused c.args.first.now _ c.in_err-read.field-0.0 (file_refused 2 c.args.first.now (set_of c.args.p) c.requires.0 front _ c.read.ensures.0 room c.in_err-read.field-0.0 c.in_err-read.was)))

@@ -9,6 +9,7 @@ use lib.Dec.{T, lit≤}
 use lib.IntN.{ℤ}
 use lib.ListN.{length, take, drop, length-drop, take-append-drop}
 use lib.Seq.{length-take-le}
+use Rattle.refusals.proofs.Errors.{err_is}
 use Rattle.refusals.specs.Outcomes.{outcome, Passes}
 use Rattle.refusals.proofs.Checks.{passed_all, refused_first, done_holds}
 use Rattle.parameters.specs.Sets.{ParameterSet, set_of}
@@ -20,7 +21,7 @@ use Rattle.files.specs.Calls.{set_checks}
 use Rattle.heads.proofs.ArraysOfKinds.{sealed_arrays}
 use Rattle.opened_files.specs.Pairs.{file_checks, pair_checks, message_of}
 use Rattle.opened_files.specs.Steps.{opening_sealed, key_in}
-use Rattle.opened_arrays.proofs.Answers.{gives_as, gives_refusal}
+use Rattle.opened_arrays.proofs.Answers.{gives_as, gives_err}
 use Rattle.opened_files.proofs.JoinedArrays.{last_check}
 use Rattle.opened_files.proofs.KeptArrays.{array_kept}
 use Rattle.opened_files.proofs.ReadFiles.{Read, N_small, file_read, file_refused}
@@ -82,4 +83,4 @@ returns-in_err-read_sealed c =
     let few : c.args.p.n ≤ 1024 = (accepted_parameters P c.requires.key_read.0.accepted).N_small in
     let few_sealed : c.args.sealed.n ≤ 1024 = N_small 3 c.args.file.now (set_of c.args.sealed) c.requires.file_value in
     let room : length part ≡ file_numbers 3 c.args.sealed.n = length-take-le count (drop from c.args.numbers.now) (omega (arith, few, few_sealed, length-drop from c.args.numbers.now)) ∙ omega arith in
-    gives_refusal (sym (refused_first (file_checks 3 c.args.file.now) _ _ _ (file_refused 3 c.args.file.now (set_of c.args.sealed) c.requires.file_value part _ c.read_sealed.ensures.1.0 room c.in_err-read_sealed.field-0.0 c.in_err-read_sealed.was)))
+    gives_err (err_is _ _ c.from_residual.ensures.1) (sym (refused_first (file_checks 3 c.args.file.now) _ _ _ (file_refused 3 c.args.file.now (set_of c.args.sealed) c.requires.file_value part _ c.read_sealed.ensures.1.0 room c.in_err-read_sealed.field-0.0 c.in_err-read_sealed.was)))
