@@ -19,10 +19,8 @@ pub fn give(answer: Result<Pair, Refusal>, ra: &mut i32, rb: &mut i32) -> u32
 {
     match answer {
         Ok(r) => {
-            let a = r.a;
-            let b = r.b;
-            *ra = a;
-            *rb = b;
+            *ra = r.a;
+            *rb = r.b;
             0
         }
         Err(refusal) => refusal.number(),
@@ -44,16 +42,11 @@ pub fn give_parameters(
 {
     match answer {
         Ok(p) => {
-            let pn = p.n;
-            let pc = p.c;
-            let pd = p.d;
-            let ps = p.s;
-            let pt = p.t;
-            *n = pn;
-            *c = pc;
-            *d = pd;
-            *s = ps;
-            *t = pt;
+            *n = p.n;
+            *c = p.c;
+            *d = p.d;
+            *s = p.s;
+            *t = p.t;
             0
         }
         Err(refusal) => refusal.number(),

@@ -24,13 +24,8 @@ pub fn sealing_refusal(
     ensures { answered result ≡ outcome (parameter_checks (set_of p) ++ sealing_checks (set_of p) h.now phi.now message.now room) tt }
 {
     p.check()?;
-    Refusal::WrongLength.when(!packing::full_with_message(
-        p.n,
-        message.len(),
-        h.len(),
-        phi.len(),
-        room,
-    ))?;
+    let lengths = packing::full_with_message(p.n, message.len(), h.len(), phi.len(), room);
+    Refusal::WrongLength.when(!lengths)?;
     check_array(p, ArraySet::ReducedModuloQ, h)?;
     check_array(p, ArraySet::Phi, phi)?;
     Refusal::SpareBitSet.when(packing::spare_bit_set(p.n, message))

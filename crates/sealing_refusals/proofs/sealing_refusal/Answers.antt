@@ -42,7 +42,7 @@ returns-in_err-when c =
     let s = (goal.at.returns-in_err-when c).Start in
     let p = P s in
     let t = lengths s in
-    stops p t [] (own p ReducedModuloQ c.args.h.now ∷ own p Phi c.args.phi.now ∷ 15 if spare_bit_set p.N c.args.message.now ∷ []) (passed_on _ _ c.from_residual-in_err-when.ensures.1) (and_lengths p t c.full_with_message.ensures c.in_ok-check.ensures c.in_err-when.ensures)
+    stops p t [] (own p ReducedModuloQ c.args.h.now ∷ own p Phi c.args.phi.now ∷ 15 if spare_bit_set p.N c.args.message.now ∷ []) (passed_on _ _ c.from_residual-in_err-when.ensures.1) (and_lengths p t c.full_with_message-lengths.ensures c.in_ok-check.ensures c.in_err-when.ensures)
 
 pub returns-in_err-check_array : goal.returns-in_err-check_array
 unfolding sealing_checks
@@ -50,7 +50,7 @@ returns-in_err-check_array c =
     let s = (goal.at.returns-in_err-check_array c).Start in
     let p = P s in
     let t = lengths s in
-    let o_7 = and_lengths p t c.full_with_message.ensures c.in_ok-check.ensures c.in_ok-when.ensures in
+    let o_7 = and_lengths p t c.full_with_message-lengths.ensures c.in_ok-check.ensures c.in_ok-when.ensures in
     stops p t (own p ReducedModuloQ c.args.h.now ∷ []) (own p Phi c.args.phi.now ∷ 15 if spare_bit_set p.N c.args.message.now ∷ []) (passed_on _ _ c.from_residual-in_err-check_array.ensures.1) (and_array p t ReducedModuloQ c.args.h.now (λ h. (asked s h).1) [] o_7 c.in_err-check_array.ensures)
 
 pub returns-in_err-check_array-2 : goal.returns-in_err-check_array-2
@@ -59,7 +59,7 @@ returns-in_err-check_array-2 c =
     let s = (goal.at.returns-in_err-check_array-2 c).Start in
     let p = P s in
     let t = lengths s in
-    let o_7 = and_lengths p t c.full_with_message.ensures c.in_ok-check.ensures c.in_ok-when.ensures in
+    let o_7 = and_lengths p t c.full_with_message-lengths.ensures c.in_ok-check.ensures c.in_ok-when.ensures in
     let o_0 = and_array p t ReducedModuloQ c.args.h.now (λ h. (asked s h).1) [] o_7 c.in_ok-check_array.ensures in
     stops p t (own p ReducedModuloQ c.args.h.now ∷ own p Phi c.args.phi.now ∷ []) (15 if spare_bit_set p.N c.args.message.now ∷ []) (passed_on _ _ c.from_residual-in_err-check_array-2.ensures.1) (and_array p t Phi c.args.phi.now (λ h. (asked s h).2) (own p ReducedModuloQ c.args.h.now ∷ []) o_0 c.in_err-check_array-2.ensures)
 
@@ -69,7 +69,7 @@ returns c =
     let s = (goal.at.returns c).Start in
     let p = P s in
     let t = lengths s in
-    let o_7 = and_lengths p t c.full_with_message.ensures c.in_ok-check.ensures c.in_ok-when.ensures in
+    let o_7 = and_lengths p t c.full_with_message-lengths.ensures c.in_ok-check.ensures c.in_ok-when.ensures in
     let o_0 = and_array p t ReducedModuloQ c.args.h.now (λ h. (asked s h).1) [] o_7 c.in_ok-check_array.ensures in
     let o_1 = and_array p t Phi c.args.phi.now (λ h. (asked s h).2) (own p ReducedModuloQ c.args.h.now ∷ []) o_0 c.in_ok-check_array-2.ensures in
     and_check p t (15 if spare_bit_set p.N c.args.message.now) (own p ReducedModuloQ c.args.h.now ∷ own p Phi c.args.phi.now ∷ []) o_1 (c.when-2.ensures ∙ ap (λ (b : Bool). outcome (15 if b ∷ []) (tt {0})) c.spare_bit_set.ensures)
