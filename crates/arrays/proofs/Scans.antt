@@ -4,7 +4,8 @@ use mathlib.Core.Bool.{Bool, true, false, not, cond, ◌&&◌, ◌||◌}
 use Prim.Native.Nat.{ℕ, zero, suc, ◌+◌, ◌≤◌}
 use native.Mathlib.Omega.{arith}
 use native.Mathlib.Numerals.{add-one}
-use Rattle.std.specs.List.{fold, list_all, list_any, count_by, range_with_len}
+use mir.Val.{bool_byte}
+use Rattle.std.specs.List.{list_all, list_any, range_with_len}
 use Rattle.eisenstein.specs.Values.{𝟘, ◌+ω◌}
 use Rattle.polynomials.specs.Polynomials.{Polynomial, sum, all, count}
 
@@ -16,6 +17,30 @@ every_none t = refl
 pub every_more : (t : ℕ → Bool) (i : ℕ) {b c : Bool} → b ≡ all i t → c ≡ t i → (b && c) ≡ all (i + 1) t
 unfolding all
 every_more t i h e = ap₂ ◌&&◌ h e ∙ sym (ap (λ (n : ℕ). all n t) (add-one i))
+
+-- a loop that adds 1 where the test below n is passed: so many of the first i were
+pub record Counted (t : ℕ → Bool) (i found : ℕ) : Type 0 where
+  pub most : found ≤ i
+  pub is : found ≡ count i t
+
+pub counted_none : (t : ℕ → Bool) → Counted t 0 0
+unfolding count
+counted_none t = record { most = omega arith; is = refl }
+
+pub counted_more : (t : ℕ → Bool) {i found : ℕ} {b : Bool} → Counted t i found → b ≡ t i → Counted t (i + 1) (found + bool_byte b)
+unfolding count
+counted_more t {i} {found} {b} h e = record {
+  most = omega (arith, h.most, small b);
+  is = ap₂ (λ (k : ℕ) (c : Bool). k + bool_byte c) h.is e ∙ sym (ap (λ (n : ℕ). count n t) (add-one i) ∙ ap (λ (k : ℕ). count i t + k) (one_or_none (t i)));
+}
+  where
+    small : (c : Bool) → bool_byte c ≤ 1
+    small true = omega arith
+    small false = omega arith
+
+    one_or_none : (c : Bool) → cond c 1 0 ≡ bool_byte c
+    one_or_none true = refl
+    one_or_none false = refl
 
 -- ---- chains over a range
 
@@ -40,18 +65,6 @@ all_from t a (suc n) =
 pub all_of_range : (t : ℕ → Bool) (n : ℕ) → list_all t (range_with_len 0 n) ≡ all n t
 unfolding all
 all_of_range t n = sym (all_from t 0 n) ∙ ap (λ (m : ℕ). all m t) {x = 0 + n} {y = n} (omega arith)
-
-count_from : (t : ℕ → Bool) (a n : ℕ) → count (a + n) t ≡ fold (λ k i. k + cond (t i) 1 0) (count a t) (range_with_len a n)
-unfolding count
-count_from t a zero = ap (λ (m : ℕ). count m t) {x = a + 0} {y = a} (omega arith)
-count_from t a (suc n) =
-    ap (λ (m : ℕ). count m t) {x = a + suc n} {y = a + 1 + n} (omega arith)
-    ∙ count_from t (a + 1) n
-    ∙ ap (λ (m : ℕ). fold (λ k i. k + cond (t i) 1 0) (count m t) (range_with_len (a + 1) n)) (add-one a)
-
-pub count_of_range : (t : ℕ → Bool) (n : ℕ) → count_by t (range_with_len 0 n) ≡ count n t
-unfolding count
-count_of_range t n = sym (count_from t 0 n) ∙ ap (λ (m : ℕ). count m t) {x = 0 + n} {y = n} (omega arith)
 
 -- whether a test from a on fails, where those below a pass
 pub any_of_range : (p t : ℕ → Bool) (a n : ℕ) → all a t ≡ true → ((k : ℕ) → a ≤ k → t k ≡ not (p k)) → list_any p (range_with_len a n) ≡ not (all (a + n) t)

@@ -1,20 +1,19 @@
--- `count_nonzero` meets its contract.
-use mathlib.Core.Path.{◌∙◌}
-use mathlib.Core.Bool.{Bool}
-use Prim.Native.Nat.{ℕ}
-use Rattle.std.proofs.Common.{arith, rules, tests}
-use Rattle.std.proofs.lemmas.Iterator.{YieldsList-from_range}
-use Rattle.std.proofs.lemmas.Iterator.Consumers.{count_from_yields_List, YieldsList-from_filter}
-use Rattle.std.proofs.lemmas.List.Sums.{length-filter}
-use Rattle.std.specs.List.{range_with_len}
-use Rattle.polynomials.specs.Polynomials.{coefficient, nonzero}
-use Rattle.arrays.proofs.Scans.{count_of_range}
+-- `count_nonzero` meets its contract. The loop's invariant: how many of the coefficients so far are not zero.
+use mathlib.Core.Path.{sym, ◌∙◌, ap, subst}
+use Prim.Native.Nat.{ℕ, ◌+◌}
+use native.Mathlib.Omega.{arith}
+use Rattle.polynomials.specs.Polynomials.{count}
+use Rattle.arrays.proofs.Scans.{Counted, counted_none, counted_more}
 use Rattle.set_tests.proofs.scans.count_nonzero.Goals as goal
+use Rattle.set_tests.proofs.scans.count_nonzero.Invariants.{test}
+
+pub loop-i-init : goal.loop-i-init
+loop-i-init c = counted_none (test c.args.x.now)
+
+pub loop-i-preserved : goal.loop-i-preserved
+loop-i-preserved c =
+    let t = test c.args.x.now in
+    subst (λ (k : ℕ). Counted t (c.loop-i.i + 1) (c.loop-i.found + k)) (sym c.from-found.ensures) (counted_more t c.loop-i.invariant c.nonzero_at.ensures)
 
 pub returns : goal.returns
-returns c =
-    let n = c.args.n in
-    let test : ℕ → Bool = λ i. nonzero (coefficient c.args.x.now i) in
-    count_from_yields_List c.filter.result c.count.result c.count.ensures.ran (YieldsList-from_filter _ test (YieldsList-from_range 0 n n c.filter.ensures.source (omega arith)) c.filter.ensures.closure (λ x b q k. search (rules, tests)))
-    ∙ length-filter test (range_with_len 0 n)
-    ∙ count_of_range test n
+returns c = c.loop-i.invariant.is ∙ ap (λ (k : ℕ). count k (test c.args.x.now)) (omega arith)
