@@ -8,6 +8,7 @@ ghost use Rattle.unit_operands.specs.Operands.{Operands};
 ghost use Rattle.unit_products.specs.Rotations.{ζ, PartsBelow, run, runs, six_at, SixFit, Filled, Added, Summed, Rotated, Summands, PlacesBelow};
 
 use crate::places::places_of;
+use eisenstein::Pair;
 
 // The sum of six numbers of `twice`, each k places after a start, formed in 16 bits.
 fn sum_of_six(twice: &[i16], starts: [usize; 6], k: usize) -> i16
@@ -104,12 +105,11 @@ fn add_rest(sums: &mut [i32], twice: &[i16], n: usize, places: &[u16])
     }
 }
 
-// Adds the rotations by the places at which x is (ua, ub).
+// Adds the rotations by the places at which x is u.
 fn add_unit(
     x: &[i32],
     n: usize,
-    ua: i32,
-    ub: i32,
+    u: Pair,
     twice: &[i16],
     places: &mut [u16],
     block: &mut [i16],
@@ -117,9 +117,9 @@ fn add_unit(
 )
     requires { (length x.now ≡ 2 * n) × Summands n (2 ^ 29) sums.old twice.now × (n ≤ length places.old) × (length block.old ≡ 256) }
     ensures { (length places.new ≡ length places.old) × (length block.new ≡ length block.old)
-        × Summed n (runs n twice.now (value ua ub) (coefficient x.now)) (2 ^ 23) sums.old sums.new }
+        × Summed n (runs n twice.now (value u.a u.b) (coefficient x.now)) (2 ^ 23) sums.old sums.new }
 {
-    let count = places_of(x, n, ua, ub, places);
+    let count = places_of(x, n, u, places);
     let sixes = count - count % 6;
     add_sixes(sums, twice, block, n, &places[..sixes]);
     add_rest(sums, twice, n, &places[sixes..count]);
@@ -162,8 +162,7 @@ fn add_units(
 {
     for k in (0..6).rev() {
         turn(sums, n);
-        let u = eisenstein::unit(k);
-        add_unit(x, n, u.a, u.b, twice, places, block, sums);
+        add_unit(x, n, eisenstein::unit(k), twice, places, block, sums);
     }
 }
 

@@ -2,8 +2,10 @@
 use mathlib.Core.Path.{ap₂}
 use mathlib.Core.Bool.{◌&&◌}
 use Prim.Native.Nat.{◌+◌, ◌*◌}
+use borrow.Author.Rules.{rules}
 use lib.IntN.{pos}
 use lib.ListN.{get_or}
+use mir.Syntax.{w32}
 use Rattle.eisenstein.specs.Values.{same}
 use Rattle.eisenstein.proofs.Equality.{same_bits}
 use Rattle.polynomials.specs.Polynomials.{coefficient}
@@ -12,5 +14,5 @@ use Rattle.unit_products.proofs.places.coefficient_is.Goals as goal
 pub returns : goal.returns
 unfolding same coefficient
 returns c = ap₂ ◌&&◌
-    (same_bits (get_or c.args.x.now (2 * c.args.i) (pos 0)) c.args.a (record { sfits = c.xa-1.given }) c.ranges.a)
-    (same_bits (get_or c.args.x.now (2 * c.args.i + 1) (pos 0)) c.args.b (record { sfits = c.xb-1.given }) c.ranges.b)
+    (same_bits {w = w32} (get_or c.args.x.now (2 * c.args.i) (pos 0)) c.args.u.a (search rules) (search rules))
+    (same_bits {w = w32} (get_or c.args.x.now (2 * c.args.i + 1) (pos 0)) c.args.u.b (search rules) (search rules))

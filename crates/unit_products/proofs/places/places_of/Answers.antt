@@ -5,8 +5,6 @@ use Prim.Native.Nat.{ℕ, ◌+◌, ◌<◌}
 use native.Mathlib.Omega.{arith}
 use lib.ListN.{length, set, length-set}
 use lib.Seq.{get_or-set_same}
-use mir.Val.{to_z, of_z}
-use mir.Syntax.{w32}
 use Rattle.eisenstein.specs.Values.{ℤ[ω], value}
 use Rattle.polynomials.specs.Polynomials.{coefficient}
 use Rattle.unit_products.specs.Rotations.{Places}
@@ -14,9 +12,8 @@ use Rattle.unit_products.proofs.PlacesOf.{places_none, places_kept, places_more,
 use Rattle.unit_products.proofs.places.places_of.Goals as goal
 use Rattle.unit_products.proofs.places.places_of.Goals.{Start, then-coefficient_is, else-coefficient_is}
 
--- the unit, as it is handed on and as it was given
 abbrev unit : Start → ℤ[ω]
-unit s = value (to_z w32 (of_z w32 s.args.ua)) (to_z w32 (of_z w32 s.args.ub))
+unit s = value s.args.u.a s.args.u.b
 
 pub loop-j-init : goal.loop-j-init
 loop-j-init c = (omega arith, refl, places_none (unit (goal.at.loop-j-init c).Start) (coefficient c.args.x.now) c.args.places.now)

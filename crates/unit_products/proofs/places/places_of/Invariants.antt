@@ -8,4 +8,4 @@ use Rattle.unit_products.specs.Rotations.{Places}
 use Rattle.unit_products.proofs.places.places_of.Given as goal
 
 abbrev pub invariant-loop-j : goal.invariant-loop-j
-invariant-loop-j l = (l.count ≤ l.j) × (length l.places ≡ length l.initial.places) × Places l.j (value l.ua l.ub) (coefficient l.x) l.places l.count
+invariant-loop-j l = (l.count ≤ l.j) × (length l.places ≡ length l.initial.places) × Places l.j (value l.u.a l.u.b) (coefficient l.x) l.places l.count

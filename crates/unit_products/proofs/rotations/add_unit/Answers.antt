@@ -1,11 +1,10 @@
 -- `add_unit` meets its contract.
-use mathlib.Core.Path.{◌≡◌, ◌∙◌, ap₂, subst}
+use mathlib.Core.Path.{◌≡◌, ◌∙◌}
 use Prim.Native.Nat.{ℕ, ◌-◌, ◌%◌}
 use native.Mathlib.Omega.{arith}
 use lib.ListN.{length, get_or, take, drop, length-drop}
 use lib.Seq.{get_or-take, get_or-drop, length-take-le}
-use mir.Facts.{to_z-of_z}
-use Rattle.eisenstein.specs.Values.{ℤ[ω], value}
+use Rattle.eisenstein.specs.Values.{value}
 use Rattle.polynomials.specs.Polynomials.{coefficient}
 use Rattle.unit_products.specs.Rotations.{Places, Rotated}
 use Rattle.unit_products.proofs.RotatedSums.{rotated_same, unit_summed}
@@ -18,7 +17,7 @@ returns c =
     let places = c.places_of-count.new.places in
     let count : ℕ = c.places_of-count.result in
     let sixes : ℕ = count - count % 6 in
-    let listed : Places n (value c.args.ua c.args.ub) (coefficient c.args.x.now) places count = subst (λ (u : ℤ[ω]). Places n u (coefficient c.args.x.now) places count) (ap₂ value (to_z-of_z c.ranges.ua) (to_z-of_z c.ranges.ub)) c.places_of-count.ensures.1 in
+    let listed : Places n (value c.args.u.a c.args.u.b) (coefficient c.args.x.now) places count = c.places_of-count.ensures.1 in
     let long : length (take sixes places) ≡ sixes = length-take-le sixes places (omega (arith, listed.few, c.places_of-count.ensures.0)) in
     let rest_long : length (take (count - sixes) (drop sixes places)) ≡ count - sixes = length-take-le (count - sixes) (drop sixes places) (omega (arith, length-drop sixes places, listed.few, c.places_of-count.ensures.0)) in
     let first : Rotated n twice (λ m. get_or (take sixes places) m 0) sixes c.args.sums.now c.add_sixes.new.sums = rw long at c.add_sixes.ensures.1 in

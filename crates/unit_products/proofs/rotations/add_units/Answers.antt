@@ -2,12 +2,8 @@
 use mathlib.Core.Path.{◌≡◌, refl, ◌∙◌, ap, subst}
 use Prim.Native.Nat.{ℕ, suc, ◌-◌, ◌^◌}
 use native.Mathlib.Omega.{arith}
-use borrow.Author.Rules.{rules}
 use native.Mathlib.Nat.{mod-eq_of_lt}
-use mir.Syntax.{w32}
-use mir.Val.{to_z, of_z}
 use Rattle.eisenstein.specs.Values.{ℤ[ω], value, unit}
-use Rattle.eisenstein.proofs.Pairs.{pair_read}
 use Rattle.polynomials.specs.Polynomials.{coefficient}
 use Rattle.unit_products.specs.Rotations.{runs, Summed}
 use Rattle.unit_products.proofs.Horner.{turned_below, grown, still_small, After, after_none, after_next, after_all}
@@ -37,16 +33,15 @@ add_unit-requires c = let h = c.loop-k.invariant.2 in
 
 pub loop-k-preserved : goal.loop-k-preserved
 loop-k-preserved c =
-    let handed : value (to_z w32 (of_z w32 c.unit-u.result.a)) (to_z w32 (of_z w32 c.unit-u.result.b)) ≡ value c.unit-u.result.a c.unit-u.result.b = pair_read {w = w32} (search rules) (search rules) in
     let m : ℕ = 6 - c.loop-k.k in
     let next : suc m ≡ 6 - (c.loop-k.k - 1) = omega arith in
-    let e : value c.unit-u.result.a c.unit-u.result.b ≡ unit (5 - m) = c.unit-u.ensures ∙ ap unit (mod-eq_of_lt (omega arith) ∙ omega arith) in
+    let e : value c.unit.result.a c.unit.result.b ≡ unit (5 - m) = c.unit.ensures ∙ ap unit (mod-eq_of_lt (omega arith) ∙ omega arith) in
     let x = coefficient c.args.x.now in (
       c.add_unit.ensures.0 ∙ c.loop-k.invariant.0,
       c.add_unit.ensures.1 ∙ c.loop-k.invariant.1,
       subst (λ (k : ℕ). After c.args.n x c.args.twice.now k c.add_unit.new.sums) next
           (after_next c.args.n x c.args.twice.now m c.loop-k.sums c.loop-k.invariant.2 c.turn.ensures
-          (subst (λ (v : ℤ[ω]). Summed c.args.n (runs c.args.n c.args.twice.now v x) (2 ^ 23) c.turn.new.x c.add_unit.new.sums) (handed ∙ e) c.add_unit.ensures.2)),
+          (subst (λ (v : ℤ[ω]). Summed c.args.n (runs c.args.n c.args.twice.now v x) (2 ^ 23) c.turn.new.x c.add_unit.new.sums) e c.add_unit.ensures.2)),
     )
 
 pub returns : goal.returns
