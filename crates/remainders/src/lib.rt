@@ -59,23 +59,10 @@ fn best(r: Candidate, s: Candidate) -> Candidate
     requires { Differ (value r.a r.b) r.excess (value s.a s.b) s.excess }
     ensures { (value result.a result.b ≡ best (value r.a r.b) (value s.a s.b)) × (result.excess ≡ cond (better (value s.a s.b) (value r.a r.b)) s.excess r.excess) }
 {
-    let ra = r.a;
-    let rb = r.b;
-    let m = r.excess;
-    let sa = s.a;
-    let sb = s.b;
-    let n = s.excess;
-    if better(sa, sb, n, ra, rb, m) {
-        return Candidate {
-            a: sa,
-            b: sb,
-            excess: n,
-        };
-    }
-    Candidate {
-        a: ra,
-        b: rb,
-        excess: m,
+    if better(s.a, s.b, s.excess, r.a, r.b, r.excess) {
+        s
+    } else {
+        r
     }
 }
 
@@ -127,9 +114,7 @@ fn best_corner(u: i64, v: i64, c: i64, d: i64, n: i64) -> Wide
         },
     );
     let r = best(lower, upper);
-    let a = r.a;
-    let b = r.b;
-    Wide { a, b }
+    Wide { a: r.a, b: r.b }
 }
 
 // The remainder of (a, b) modulo (c, d).
@@ -139,9 +124,7 @@ fn remainder(a: i64, b: i64, c: i64, d: i64) -> Wide
 {
     let n = norm(c as i16, d as i16) as i64;
     let first = first_corner(a, b, c, d, n);
-    let u = first.a;
-    let v = first.b;
-    best_corner(u, v, c, d, n)
+    best_corner(first.a, first.b, c, d, n)
 }
 
 // The same in 32 bits, where nothing is refused.
@@ -150,11 +133,9 @@ fn remainder_of(a: i64, b: i64, c: i32, d: i32) -> Pair
     ensures { value result.a result.b ≡ mod_q (value c d) (value a b) }
 {
     let r = remainder(a, b, c as i64, d as i64);
-    let ra = r.a;
-    let rb = r.b;
     Pair {
-        a: ra as i32,
-        b: rb as i32,
+        a: r.a as i32,
+        b: r.b as i32,
     }
 }
 
@@ -185,11 +166,7 @@ pub fn store_remainder(out: &mut [i32], i: usize, v: Wide, c: i32, d: i32)
     if out.len() / 2 <= i {
         return;
     }
-    let va = v.a;
-    let vb = v.b;
-    let r = remainder_q(va, vb, c, d);
-    let ra = r.a;
-    let rb = r.b;
-    out[2 * i] = ra;
-    out[2 * i + 1] = rb;
+    let r = remainder_q(v.a, v.b, c, d);
+    out[2 * i] = r.a;
+    out[2 * i + 1] = r.b;
 }

@@ -143,4 +143,7 @@ pub best-r-requires : goal.best-r-requires
 best-r-requires c = differ (lower_excess c.before) (upper_excess c)
 
 pub returns : goal.returns
-returns c = pair_read {w = w64} (search rules) (search rules) ∙ c.best-r.ensures.0 ∙ ap₂ best (lower c.before.before.before.before) (upper c.before.before.before)
+returns c =
+    pair_read {w = w64} (search rules) (search rules)
+    ∙ c.best-r.ensures.0
+    ∙ ap₂ best (lower (goal.at.returns c).After-best-lower) (upper (goal.at.returns c).After-best-upper)
