@@ -34,35 +34,33 @@ struct Candidate {
     excess: i64,
 }
 
-// Whether r = (ra, rb) is better than s = (sa, sb), by the rule of remainders. Their norms differ as m and n, their excesses, do.
-fn better(ra: i64, rb: i64, m: i64, sa: i64, sb: i64, n: i64) -> bool
-    requires { Differ (value ra rb) m (value sa sb) n }
-    ensures { result ≡ better (value ra rb) (value sa sb) }
-{
-    if m < n {
-        return true;
+impl Candidate {
+    // Whether it is better than s, by the rule of remainders. Their norms differ as their excesses do.
+    fn is_better_than(self, s: Candidate) -> bool
+        requires { Differ (value self.a self.b) self.excess (value s.a s.b) s.excess }
+        ensures { result ≡ better (value self.a self.b) (value s.a s.b) }
+    {
+        if self.excess < s.excess {
+            return true;
+        }
+        if s.excess < self.excess {
+            return false;
+        }
+        if s.a < self.a {
+            return true;
+        }
+        if self.a < s.a {
+            return false;
+        }
+        s.b < self.b
     }
-    if n < m {
-        return false;
-    }
-    if sa < ra {
-        return true;
-    }
-    if ra < sa {
-        return false;
-    }
-    sb < rb
-}
 
-// The better of two values.
-fn best(r: Candidate, s: Candidate) -> Candidate
-    requires { Differ (value r.a r.b) r.excess (value s.a s.b) s.excess }
-    ensures { (value result.a result.b ≡ best (value r.a r.b) (value s.a s.b)) × (result.excess ≡ cond (better (value s.a s.b) (value r.a r.b)) s.excess r.excess) }
-{
-    if better(s.a, s.b, s.excess, r.a, r.b, r.excess) {
-        s
-    } else {
-        r
+    // The better of it and s.
+    fn best(self, s: Candidate) -> Candidate
+        requires { Differ (value self.a self.b) self.excess (value s.a s.b) s.excess }
+        ensures { (value result.a result.b ≡ best (value self.a self.b) (value s.a s.b)) × (result.excess ≡ cond (better (value s.a s.b) (value self.a self.b)) s.excess self.excess) }
+    {
+        if s.is_better_than(self) { s } else { self }
     }
 }
 
@@ -89,31 +87,27 @@ fn best_corner(u: i64, v: i64, c: i64, d: i64, n: i64) -> Wide
     let e = c + c - d;
     let x = u * e + v * (d + d - c);
     let y = v * e - u * (c + d);
-    let lower = best(
-        Candidate {
-            a: u,
-            b: v,
-            excess: 0,
-        },
-        Candidate {
-            a: u - c,
-            b: v - d,
-            excess: n - x,
-        },
-    );
-    let upper = best(
-        Candidate {
-            a: u + d,
-            b: v - c + d,
-            excess: n - y,
-        },
-        Candidate {
-            a: u - c + d,
-            b: v - c,
-            excess: n - x - y,
-        },
-    );
-    let r = best(lower, upper);
+    let first = Candidate {
+        a: u,
+        b: v,
+        excess: 0,
+    };
+    let lower = first.best(Candidate {
+        a: u - c,
+        b: v - d,
+        excess: n - x,
+    });
+    let third = Candidate {
+        a: u + d,
+        b: v - c + d,
+        excess: n - y,
+    };
+    let upper = third.best(Candidate {
+        a: u - c + d,
+        b: v - c,
+        excess: n - x - y,
+    });
+    let r = lower.best(upper);
     Wide { a: r.a, b: r.b }
 }
 

@@ -6,7 +6,7 @@ use lib.IntN.{ℤ, nat_abs}
 use mir.Syntax.{w32, w64}
 use mir.Val.{to_z, of_z, SFits}
 use mir.Facts.{to_z-of_z}
-use Rattle.integers.proofs.Machine.{cast_fits, sfits_within}
+use Rattle.integers.proofs.Machine.{sfits_within}
 use Rattle.eisenstein.specs.Values.{ℤ[ω], value}
 use Rattle.eisenstein.specs.Reduction.{mod_q}
 use Rattle.eisenstein.proofs.Limits.{within}
