@@ -18,7 +18,7 @@ use crate::checks::reduction_refusal;
 use eisenstein::{Pair, Reduced, Wide, norm};
 use refusals::Answer;
 
-// x divided by n, rounded down.
+// x divided by n, rounded down. `div_euclid` asks of n whether it is negative too, which is known here.
 fn floor_quotient(x: i64, n: i64) -> i64
     requires { (nat_abs x ≤ 2 ^ 60) × (pos 0 <ℤ n) }
     ensures { result ≡ shr_z x (nat_abs n) }
