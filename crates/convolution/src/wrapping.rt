@@ -74,7 +74,6 @@ fn convolve_copies(x: &mut [i32], y: &mut [i32], n: usize, c: i32, d: i32)
 }
 
 // x × y reduced modulo q, to out, by copies: that of x in out, where the result takes its place, and that of y in room of its own, LENGTH numbers.
-#[inline(never)]
 fn convolve_with_copies<const LENGTH: usize>(
     x: &[i32],
     y: &[i32],

@@ -18,7 +18,7 @@ use crate::checks::reduction_refusal;
 use eisenstein::{Pair, Wide, norm};
 use refusals::Refusal;
 
-// x divided by n, rounded down.
+// x divided by n, rounded down. `div_euclid` asks of n whether it is negative too, which is known here.
 fn floor_quotient(x: i64, n: i64) -> i64
     requires { (nat_abs x ≤ 2 ^ 60) × (pos 0 <ℤ n) }
     ensures { result ≡ shr_z x (nat_abs n) }
@@ -34,48 +34,33 @@ struct Candidate {
     excess: i64,
 }
 
-// Whether r = (ra, rb) is better than s = (sa, sb), by the rule of remainders. Their norms differ as m and n, their excesses, do.
-fn better(ra: i64, rb: i64, m: i64, sa: i64, sb: i64, n: i64) -> bool
-    requires { Differ (value ra rb) m (value sa sb) n }
-    ensures { result ≡ better (value ra rb) (value sa sb) }
-{
-    if m < n {
-        return true;
+impl Candidate {
+    // Whether it is better than s, by the rule of remainders. Their norms differ as their excesses do.
+    fn is_better_than(self, s: Candidate) -> bool
+        requires { Differ (value self.a self.b) self.excess (value s.a s.b) s.excess }
+        ensures { result ≡ better (value self.a self.b) (value s.a s.b) }
+    {
+        if self.excess < s.excess {
+            return true;
+        }
+        if s.excess < self.excess {
+            return false;
+        }
+        if s.a < self.a {
+            return true;
+        }
+        if self.a < s.a {
+            return false;
+        }
+        s.b < self.b
     }
-    if n < m {
-        return false;
-    }
-    if sa < ra {
-        return true;
-    }
-    if ra < sa {
-        return false;
-    }
-    sb < rb
-}
 
-// The better of two values.
-fn best(r: Candidate, s: Candidate) -> Candidate
-    requires { Differ (value r.a r.b) r.excess (value s.a s.b) s.excess }
-    ensures { (value result.a result.b ≡ best (value r.a r.b) (value s.a s.b)) × (result.excess ≡ cond (better (value s.a s.b) (value r.a r.b)) s.excess r.excess) }
-{
-    let ra = r.a;
-    let rb = r.b;
-    let m = r.excess;
-    let sa = s.a;
-    let sb = s.b;
-    let n = s.excess;
-    if better(sa, sb, n, ra, rb, m) {
-        return Candidate {
-            a: sa,
-            b: sb,
-            excess: n,
-        };
-    }
-    Candidate {
-        a: ra,
-        b: rb,
-        excess: m,
+    // The better of it and s.
+    fn best(self, s: Candidate) -> Candidate
+        requires { Differ (value self.a self.b) self.excess (value s.a s.b) s.excess }
+        ensures { (value result.a result.b ≡ best (value self.a self.b) (value s.a s.b)) × (result.excess ≡ cond (better (value s.a s.b) (value self.a self.b)) s.excess self.excess) }
+    {
+        if s.is_better_than(self) { s } else { self }
     }
 }
 
@@ -102,34 +87,28 @@ fn best_corner(u: i64, v: i64, c: i64, d: i64, n: i64) -> Wide
     let e = c + c - d;
     let x = u * e + v * (d + d - c);
     let y = v * e - u * (c + d);
-    let lower = best(
-        Candidate {
-            a: u,
-            b: v,
-            excess: 0,
-        },
-        Candidate {
-            a: u - c,
-            b: v - d,
-            excess: n - x,
-        },
-    );
-    let upper = best(
-        Candidate {
-            a: u + d,
-            b: v - c + d,
-            excess: n - y,
-        },
-        Candidate {
-            a: u - c + d,
-            b: v - c,
-            excess: n - x - y,
-        },
-    );
-    let r = best(lower, upper);
-    let a = r.a;
-    let b = r.b;
-    Wide { a, b }
+    let first = Candidate {
+        a: u,
+        b: v,
+        excess: 0,
+    };
+    let lower = first.best(Candidate {
+        a: u - c,
+        b: v - d,
+        excess: n - x,
+    });
+    let third = Candidate {
+        a: u + d,
+        b: v - c + d,
+        excess: n - y,
+    };
+    let upper = third.best(Candidate {
+        a: u - c + d,
+        b: v - c,
+        excess: n - x - y,
+    });
+    let r = lower.best(upper);
+    Wide { a: r.a, b: r.b }
 }
 
 // The remainder of (a, b) modulo (c, d).
@@ -139,9 +118,7 @@ fn remainder(a: i64, b: i64, c: i64, d: i64) -> Wide
 {
     let n = norm(c as i16, d as i16) as i64;
     let first = first_corner(a, b, c, d, n);
-    let u = first.a;
-    let v = first.b;
-    best_corner(u, v, c, d, n)
+    best_corner(first.a, first.b, c, d, n)
 }
 
 // The same in 32 bits, where nothing is refused.
@@ -150,11 +127,9 @@ fn remainder_of(a: i64, b: i64, c: i32, d: i32) -> Pair
     ensures { value result.a result.b ≡ mod_q (value c d) (value a b) }
 {
     let r = remainder(a, b, c as i64, d as i64);
-    let ra = r.a;
-    let rb = r.b;
     Pair {
-        a: ra as i32,
-        b: rb as i32,
+        a: r.a as i32,
+        b: r.b as i32,
     }
 }
 
@@ -183,11 +158,7 @@ pub fn store_remainder(out: &mut [i32], i: usize, v: Wide, c: i32, d: i32)
     if out.len() / 2 <= i {
         return;
     }
-    let va = v.a;
-    let vb = v.b;
-    let r = remainder_q(va, vb, c, d);
-    let ra = r.a;
-    let rb = r.b;
-    out[2 * i] = ra;
-    out[2 * i + 1] = rb;
+    let r = remainder_q(v.a, v.b, c, d);
+    out[2 * i] = r.a;
+    out[2 * i + 1] = r.b;
 }

@@ -127,14 +127,14 @@ overflow_sub-n c = fits w64 (ρ c) (n ⊝ x) tt
 pub best-lower-requires : goal.best-lower-requires
 best-lower-requires c = differ (first c) (second c)
 
+pub overflow_sub-third-2 : goal.overflow_sub-third-2
+overflow_sub-third-2 c = fits w64 (ρ (goal.at.overflow_sub-third-2 c).Start) (n ⊝ y) tt
+
 pub overflow_sub-n-2 : goal.overflow_sub-n-2
-overflow_sub-n-2 c = fits w64 (ρ c.before) (n ⊝ y) tt
+overflow_sub-n-2 c = fits w64 (ρ (goal.at.overflow_sub-n-2 c).Start) (n ⊝ x) tt
 
 pub overflow_sub-n-3 : goal.overflow_sub-n-3
-overflow_sub-n-3 c = fits w64 (ρ c.before) (n ⊝ x) tt
-
-pub overflow_sub-n-4 : goal.overflow_sub-n-4
-overflow_sub-n-4 c = fits w64 (ρ c.before) (n ⊝ x ⊝ y) tt
+overflow_sub-n-3 c = fits w64 (ρ (goal.at.overflow_sub-n-3 c).Start) (n ⊝ x ⊝ y) tt
 
 pub best-upper-requires : goal.best-upper-requires
 best-upper-requires c = differ (third c.before) (fourth c.before)
@@ -143,4 +143,7 @@ pub best-r-requires : goal.best-r-requires
 best-r-requires c = differ (lower_excess c.before) (upper_excess c)
 
 pub returns : goal.returns
-returns c = pair_read {w = w64} (search rules) (search rules) ∙ c.best-r.ensures.0 ∙ ap₂ best (lower c.before.before.before.before) (upper c.before.before.before)
+returns c =
+    pair_read {w = w64} (search rules) (search rules)
+    ∙ c.best-r.ensures.0
+    ∙ ap₂ best (lower (goal.at.returns c).After-best-lower) (upper (goal.at.returns c).After-best-upper)

@@ -1,6 +1,5 @@
 -- `reduce_q` meets its contract.
 use mathlib.Core.Path.{◌≡◌, sym, ◌∙◌, ap, ap₂}
-use borrow.Author.Rules.{rules}
 use mir.Syntax.{w32, w64}
 use mir.Val.{to_z, of_z}
 use Rattle.refusals.specs.Outcomes.{done, Passes}

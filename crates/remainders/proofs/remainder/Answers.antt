@@ -1,5 +1,5 @@
 -- `remainder` meets its contract: the best of the corners is `mod_q`.
-use mathlib.Core.Path.{◌≡◌, sym, ◌∙◌, ap, ap₂}
+use mathlib.Core.Path.{◌≡◌, ◌∙◌, ap, ap₂}
 use mathlib.Core.List.{List, [], ◌∷◌}
 use Prim.Native.Nat.{◌^◌}
 use borrow.Author.Rules.{rules}
@@ -9,7 +9,7 @@ use mir.Syntax.{w16, w64}
 use mir.Val.{SFits, to_z, of_z}
 use mir.Facts.{to_z-of_z}
 use Rattle.integers.proofs.Ring.{var}
-use Rattle.integers.proofs.Machine.{Leaf, given, exact, size_read, sfits_within, narrow_fits}
+use Rattle.integers.proofs.Machine.{Leaf, given, exact, sfits_within, narrow_fits}
 use Rattle.eisenstein.specs.Values.{ℤ[ω], value, norm}
 use Rattle.eisenstein.specs.Reduction.{corner, best}
 use Rattle.eisenstein.proofs.Pairs.{pair_read}

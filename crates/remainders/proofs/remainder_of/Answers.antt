@@ -6,7 +6,7 @@ use lib.IntN.{ℤ, nat_abs}
 use mir.Syntax.{w32, w64}
 use mir.Val.{to_z, of_z, SFits}
 use mir.Facts.{to_z-of_z}
-use Rattle.integers.proofs.Machine.{cast_fits, sfits_within}
+use Rattle.integers.proofs.Machine.{sfits_within}
 use Rattle.eisenstein.specs.Values.{ℤ[ω], value}
 use Rattle.eisenstein.specs.Reduction.{mod_q}
 use Rattle.eisenstein.proofs.Limits.{within}
@@ -70,11 +70,13 @@ remainder-r-requires c = let p = passed c in
     )
 
 pub overflow_cast-result : goal.overflow_cast-result
-overflow_cast-result c = fits_32 _ (part_a_is c.before.before) (size c.before.before.before).0
+overflow_cast-result c = fits_32 _ (part_a_is (goal.at.overflow_cast-result c).After-remainder-r) (size (goal.at.overflow_cast-result c).Start).0
 
 pub overflow_cast-result-2 : goal.overflow_cast-result-2
-overflow_cast-result-2 c = fits_32 _ (part_b_is c.before.before) (size c.before.before.before).1
+overflow_cast-result-2 c = fits_32 _ (part_b_is (goal.at.overflow_cast-result-2 c).After-remainder-r) (size (goal.at.overflow_cast-result-2 c).Start).1
 
 pub returns : goal.returns
-returns c = let r = c.before.before in
-    ap₂ value (back_32 _ (part_a_is r) (size r.before).0) (back_32 _ (part_b_is r) (size r.before).1)
+returns c =
+    let r = (goal.at.returns c).After-remainder-r in
+    let s = size (goal.at.returns c).Start in
+    ap₂ value (back_32 _ (part_a_is r) s.0) (back_32 _ (part_b_is r) s.1)

@@ -1,6 +1,5 @@
 -- `remainder_q` meets its contract: what `reduce_q` answers, as written over zero.
 use mathlib.Core.Path.{◌≡◌, sym, ◌∙◌, ap, ap₂}
-use borrow.Author.Rules.{rules}
 use mir.Syntax.{w32, w64}
 use mir.Val.{to_z, of_z}
 use Rattle.refusals.specs.Outcomes.{Outcome, written, Passes}

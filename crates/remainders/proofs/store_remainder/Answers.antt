@@ -1,11 +1,9 @@
 -- `store_remainder` meets its contract.
 use mathlib.Core.Path.{sym, ◌∙◌, ap, ap₂}
 use Prim.Native.Nat.{◌+◌, ◌*◌}
-use native.Mathlib.Omega.{arith}
 use borrow.Author.Rules.{rules}
-use lib.ListN.{set, length-set}
+use lib.ListN.{set}
 use mir.Syntax.{w32, w64}
-use mir.Val.{to_z, of_z}
 use Rattle.refusals.specs.Outcomes.{written}
 use Rattle.eisenstein.specs.Values.{ℤ[ω], 𝟘}
 use Rattle.eisenstein.proofs.Pairs.{pair_read}

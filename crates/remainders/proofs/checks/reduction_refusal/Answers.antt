@@ -3,7 +3,6 @@ use mathlib.Core.Path.{◌≡◌, sym, ◌∙◌, ap}
 use Prim.Native.Nat.{◌^◌}
 use mir.Syntax.{w32, w64}
 use mir.Val.{to_z, of_z}
-use Rattle.integers.proofs.Machine.{cast_fits}
 use Rattle.refusals.proofs.Checks.{refused_by, passed, none_left}
 use Rattle.eisenstein.specs.Values.{ℤ[ω], value, 𝟘, same}
 use Rattle.eisenstein.specs.Calls.{beyond}
