@@ -20,7 +20,7 @@ fn byte_at(file: &[u8], k: usize) -> u8
 pub fn unsigned_at(file: &[u8], k: usize) -> u32
     ensures { (result ≡ unsigned_at file.now k) × (result < 65536) }
 {
-    // Nothing stands at the end, and k + 1 might not be a place.
+    // Past the end both bytes are 0, and k + 1 might not fit.
     if file.len() <= k {
         return 0;
     }
