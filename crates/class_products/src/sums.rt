@@ -7,7 +7,7 @@ ghost use Rattle.class_products.specs.Steps.{Empty, Fits, Runs, Filled, four, Su
 
 use classes::remainders;
 
-// Adds one run of classes to all sums.
+// Adds one run of classes to all sums. It goes by an index, as all that write do here: of what a loop writes through `zip` or `chunks_mut` a proof knows nothing.
 fn add_run(sums: &mut [u8], run: &[u8])
     requires { length sums.old ≤ length run.now }
     ensures { Filled (λ k. plus (get_or sums.old k 0) (get_or run.now k 0)) sums.old sums.new }

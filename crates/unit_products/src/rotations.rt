@@ -35,7 +35,7 @@ fn sum_runs(block: &mut [i16], twice: &[i16], starts: &[usize; 6], from: usize)
     }
 }
 
-// Adds one run of numbers.
+// Adds one run of numbers. It goes by an index, here and wherever sums are written: of what a loop writes through `zip` or `chunks_mut` a proof knows nothing.
 fn add_run(sums: &mut [i32], numbers: &[i16])
     requires { (length sums.old ≤ length numbers.now) × AllWithin (2 ^ 30) sums.old × AllWithin 32766 numbers.now }
     ensures { Added (λ k. get_or numbers.now k (pos 0)) sums.old sums.new }
@@ -166,7 +166,7 @@ fn add_units(
     }
 }
 
-// x × y, to out, with room for y twice, for the places and for a block of sums.
+// x × y, to out, with room for y twice, for the places and for a block of sums. The rooms are lent one by one, since some steps only read what others write.
 fn multiply_with(
     x: &[i32],
     y: &[i32],
