@@ -16,6 +16,7 @@ mod starts;
 mod sums;
 
 // x × y modulo 2, to out, with room for the classes of y and then of x, for the rows along y, for where runs of them begin, and for the sums, which are zero.
+// The rooms are lent one by one, since some steps only read what others write.
 fn multiply_with(
     x: &[i32],
     y: &[i32],

@@ -7,7 +7,7 @@ ghost use Rattle.class_products.specs.Steps.{Empty, Fits, Runs, Filled, four, Su
 
 use classes::remainders;
 
-// Adds one run of classes to all sums.
+// Adds one run of classes to all sums. It goes by an index, as all that write do here: of what a loop writes through `zip` or `chunks_mut` a proof knows nothing.
 fn add_run(sums: &mut [u8], run: &[u8])
     requires { length sums.old ≤ length run.now }
     ensures { Filled (λ k. plus (get_or sums.old k 0) (get_or run.now k 0)) sums.old sums.new }
@@ -18,10 +18,10 @@ fn add_run(sums: &mut [u8], run: &[u8])
 }
 
 // Adds four runs, each from a start on, so that each sum is read and written once for all four.
-fn add_four(sums: &mut [u8], rows: &[u8], starts: [usize; 4])
-    requires fits { (i : ℕ) → i < 4 → Fits (get_or starts i 0) sums.old rows.now }
+fn add_four(sums: &mut [u8], rows: &[u8], starts: &[usize; 4])
+    requires fits { (i : ℕ) → i < 4 → Fits (get_or starts.now i 0) sums.old rows.now }
     requires rows_len_bound { length rows.now ≤ 8192 }
-    ensures { Filled (four rows.now starts sums.old) sums.old sums.new }
+    ensures { Filled (four rows.now starts.now sums.old) sums.old sums.new }
 {
     for (k, sum) in sums.iter_mut().enumerate() {
         *sum = *sum
@@ -45,7 +45,7 @@ fn add_fours(sums: &mut [u8], rows: &[u8], starts: &[u16]) -> usize
             usize::from(starts[m + 2]),
             usize::from(starts[m + 3]),
         ];
-        add_four(sums, rows, starts);
+        add_four(sums, rows, &starts);
     }
     fours
 }

@@ -11,10 +11,10 @@ use crate::places::places_of;
 use eisenstein::Pair;
 
 // The sum of six numbers of `twice`, each k places after a start, formed in 16 bits.
-fn sum_of_six(twice: &[i16], starts: [usize; 6], k: usize) -> i16
-    requires six_fit { SixFit starts (k + 1) twice.now × (length twice.now ≤ 4096) }
+fn sum_of_six(twice: &[i16], starts: &[usize; 6], k: usize) -> i16
+    requires six_fit { SixFit starts.now (k + 1) twice.now × (length twice.now ≤ 4096) }
     requires all_within { AllWithin 5461 twice.now }
-    ensures { (result ≡ six_at twice.now starts k) × (nat_abs result ≤ 32766) }
+    ensures { (result ≡ six_at twice.now starts.now k) × (nat_abs result ≤ 32766) }
 {
     twice[starts[0] + k]
         + twice[starts[1] + k]
@@ -25,17 +25,17 @@ fn sum_of_six(twice: &[i16], starts: [usize; 6], k: usize) -> i16
 }
 
 // The sums of six runs of `twice`, each from so many places after a start on, to a block of numbers. With numbers of 16 bits alone, eight are added at once.
-fn sum_runs(block: &mut [i16], twice: &[i16], starts: [usize; 6], from: usize)
-    requires six_fit { SixFit starts (from + length block.old) twice.now × (length twice.now ≤ 4096) }
+fn sum_runs(block: &mut [i16], twice: &[i16], starts: &[usize; 6], from: usize)
+    requires six_fit { SixFit starts.now (from + length block.old) twice.now × (length twice.now ≤ 4096) }
     requires all_within { AllWithin 5461 twice.now }
-    ensures { Filled (λ k. six_at twice.now starts (from + k)) block.old block.new }
+    ensures { Filled (λ k. six_at twice.now starts.now (from + k)) block.old block.new }
 {
     for (k, sum) in block.iter_mut().enumerate() {
         *sum = sum_of_six(twice, starts, from + k);
     }
 }
 
-// Adds one run of numbers.
+// Adds one run of numbers. It goes by an index, here and wherever sums are written: of what a loop writes through `zip` or `chunks_mut` a proof knows nothing.
 fn add_run(sums: &mut [i32], numbers: &[i16])
     requires { (length sums.old ≤ length numbers.now) × AllWithin (2 ^ 30) sums.old × AllWithin 32766 numbers.now }
     ensures { Added (λ k. get_or numbers.now k (pos 0)) sums.old sums.new }
@@ -46,10 +46,10 @@ fn add_run(sums: &mut [i32], numbers: &[i16])
 }
 
 // Adds six runs of `twice`, each from so many places after a start on, to sums that are no more than a block has room for.
-fn add_part(sums: &mut [i32], twice: &[i16], block: &mut [i16], starts: [usize; 6], from: usize)
-    requires six_fit { SixFit starts (from + length sums.old) twice.now × (length sums.old ≤ length block.old) × (length twice.now ≤ 4096) }
+fn add_part(sums: &mut [i32], twice: &[i16], block: &mut [i16], starts: &[usize; 6], from: usize)
+    requires six_fit { SixFit starts.now (from + length sums.old) twice.now × (length sums.old ≤ length block.old) × (length twice.now ≤ 4096) }
     requires all_within { AllWithin (2 ^ 30) sums.old × AllWithin 5461 twice.now }
-    ensures { (length block.new ≡ length block.old) × Added (λ k. six_at twice.now starts (from + k)) sums.old sums.new }
+    ensures { (length block.new ≡ length block.old) × Added (λ k. six_at twice.now starts.now (from + k)) sums.old sums.new }
 {
     let block = &mut block[..sums.len()];
     sum_runs(block, twice, starts, from);
@@ -57,10 +57,10 @@ fn add_part(sums: &mut [i32], twice: &[i16], block: &mut [i16], starts: [usize; 
 }
 
 // Adds six runs to all sums, a part after another.
-fn add_six(sums: &mut [i32], twice: &[i16], block: &mut [i16], starts: [usize; 6])
-    requires six_fit { SixFit starts (length sums.old) twice.now × (length block.old ≡ 256) × (length twice.now ≤ 4096) }
+fn add_six(sums: &mut [i32], twice: &[i16], block: &mut [i16], starts: &[usize; 6])
+    requires six_fit { SixFit starts.now (length sums.old) twice.now × (length block.old ≡ 256) × (length twice.now ≤ 4096) }
     requires all_within { AllWithin (2 ^ 30) sums.old × AllWithin 5461 twice.now }
-    ensures { (length block.new ≡ length block.old) × Added (six_at twice.now starts) sums.old sums.new }
+    ensures { (length block.new ≡ length block.old) × Added (six_at twice.now starts.now) sums.old sums.new }
 {
     for from in (0..sums.len()).step_by(256) {
         let end = (from + 256).min(sums.len());
@@ -91,7 +91,7 @@ fn add_sixes(sums: &mut [i32], twice: &[i16], block: &mut [i16], n: usize, place
             start(n, places[m + 4]),
             start(n, places[m + 5]),
         ];
-        add_six(sums, twice, block, starts);
+        add_six(sums, twice, block, &starts);
     }
 }
 
@@ -166,7 +166,7 @@ fn add_units(
     }
 }
 
-// x × y, to out, with room for y twice, for the places and for a block of sums.
+// x × y, to out, with room for y twice, for the places and for a block of sums. The rooms are lent one by one, since some steps only read what others write.
 fn multiply_with(
     x: &[i32],
     y: &[i32],

@@ -11,7 +11,7 @@ use Rattle.unit_products.proofs.rotations.add_part.Goals.{Start}
 
 -- the sums of the six runs
 abbrev six : Start → ℕ → ℤ
-six s k = six_at s.args.twice.now s.args.starts (s.args.from + k)
+six s k = six_at s.args.twice.now s.args.starts.now (s.args.from + k)
 
 pub add_run-requires : goal.add_run-requires
 add_run-requires c =
@@ -19,7 +19,7 @@ add_run-requires c =
     let n : ℕ = length c.args.sums.now in (
       omega (arith, front_long n c.args.block.now c.sum_runs.new.block (six s) c.requires.six_fit.1 c.sum_runs.ensures),
       c.requires.all_within.0,
-      front_within n c.args.block.now c.sum_runs.new.block (six s) c.requires.six_fit.1 c.sum_runs.ensures 32766 (λ k. six_below n c.args.twice.now c.requires.all_within.1 c.args.starts (c.args.from + k)),
+      front_within n c.args.block.now c.sum_runs.new.block (six s) c.requires.six_fit.1 c.sum_runs.ensures 32766 (λ k. six_below n c.args.twice.now c.requires.all_within.1 c.args.starts.now (c.args.from + k)),
     )
 
 pub returns : goal.returns

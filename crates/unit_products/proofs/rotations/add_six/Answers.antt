@@ -13,16 +13,16 @@ use Rattle.unit_products.proofs.rotations.add_six.Goals as goal
 use Rattle.unit_products.proofs.rotations.add_six.Goals.{After-add_part}
 
 -- the sums after one part more
-so_far : (c : After-add_part) (end : ℕ) → c.min-end.result ≡ end → Changed (λ m i. get_or m i (pos 0)) (λ i. get_or c.args.sums.now i (pos 0) +ℤ six_at c.args.twice.now c.args.starts i) c.args.sums.now (put_mid c.loop-from.from (c.min-end.result - c.loop-from.from) c.loop-from.sums c.add_part.new.sums) end
+so_far : (c : After-add_part) (end : ℕ) → c.min-end.result ≡ end → Changed (λ m i. get_or m i (pos 0)) (λ i. get_or c.args.sums.now i (pos 0) +ℤ six_at c.args.twice.now c.args.starts.now i) c.args.sums.now (put_mid c.loop-from.from (c.min-end.result - c.loop-from.from) c.loop-from.sums c.add_part.new.sums) end
 so_far c end e =
     let k : ℕ = c.loop-from.from in
     let m : ℕ = c.min-end.result - k in
     let inside : k + m ≤ length c.loop-from.sums = omega arith in
     let all : k + m ≡ end = omega arith in
     let part = c.add_part.ensures.1 in
-    subst (λ (i : ℕ). Changed (λ m i. get_or m i (pos 0)) (λ i. get_or c.args.sums.now i (pos 0) +ℤ six_at c.args.twice.now c.args.starts i) c.args.sums.now (put_mid k m c.loop-from.sums c.add_part.new.sums) i) all
+    subst (λ (i : ℕ). Changed (λ m i. get_or m i (pos 0)) (λ i. get_or c.args.sums.now i (pos 0) +ℤ six_at c.args.twice.now c.args.starts.now i) c.args.sums.now (put_mid k m c.loop-from.sums c.add_part.new.sums) i) all
     (part_changed k m c.add_part.new.sums c.loop-from.invariant.1 (part.long ∙ part_long k m c.loop-from.sums inside) inside
-    (λ j q. part.inside j (omega (arith, part_long k m c.loop-from.sums inside)) ∙ ap (λ (z : ℤ). z +ℤ six_at c.args.twice.now c.args.starts (k + j)) (part_at k m c.loop-from.sums inside j q ∙ c.loop-from.invariant.1.old (k + j) (omega arith))))
+    (λ j q. part.inside j (omega (arith, part_long k m c.loop-from.sums inside)) ∙ ap (λ (z : ℤ). z +ℤ six_at c.args.twice.now c.args.starts.now (k + j)) (part_at k m c.loop-from.sums inside j q ∙ c.loop-from.invariant.1.old (k + j) (omega arith))))
 
 pub loop-from-preserved : goal.loop-from-preserved
 loop-from-preserved c = (c.add_part.ensures.0 ∙ c.loop-from.invariant.0, so_far (goal.at.loop-from-preserved c).After-add_part (c.loop-from.from + 256) (omega arith))

@@ -15,7 +15,7 @@ use Rattle.unit_products.proofs.rotations.sum_of_six.Goals.{Start}
 
 abbrev number : Start → ℕ → Leaf
 number s i =
-    given (number_at s.args.twice.now s.args.starts s.args.k i) 5461 (s.requires.all_within (get_or s.args.starts i 0 + s.args.k))
+    given (number_at s.args.twice.now s.args.starts.now s.args.k i) 5461 (s.requires.all_within (get_or s.args.starts.now i 0 + s.args.k))
 
 abbrev ρ : Start → List Leaf
 ρ s = number s 0 ∷ number s 1 ∷ number s 2 ∷ number s 3 ∷ number s 4 ∷ number s 5 ∷ []
