@@ -16,8 +16,7 @@ use bundles::{STOP_BYTES, entry_length};
 fn stands_at(bytes: &[u8], at: usize) -> bool
     ensures { result ≡ stands_at bytes.now at }
 {
-    let n = coefficient_count(bytes);
-    at <= bytes.len() && entry_length(n) <= bytes.len() - at
+    at <= bytes.len() && entry_length(coefficient_count(bytes)) <= bytes.len() - at
 }
 
 // The stop number of the entry at this place, or that no entry is left.
@@ -37,10 +36,7 @@ pub fn array_at<'a>(bytes: &'a [u8], at: usize) -> &'a [u8]
     if !stands_at(bytes, at) {
         return &bytes[..0];
     }
-    let n = coefficient_count(bytes);
-    let from = at + STOP_BYTES;
-    let to = at + entry_length(n);
-    &bytes[from..to]
+    &bytes[at + STOP_BYTES..at + entry_length(coefficient_count(bytes))]
 }
 
 // Where the next entry stands; past the end the same place again.
@@ -50,8 +46,7 @@ pub fn next_at(bytes: &[u8], at: usize) -> usize
     if !stands_at(bytes, at) {
         return at;
     }
-    let n = coefficient_count(bytes);
-    at + entry_length(n)
+    at + entry_length(coefficient_count(bytes))
 }
 
 // One step for callers that hold a place: the entry's stop and the place of its array go to the outputs, and at moves on. Past the end nothing is written.
@@ -61,14 +56,11 @@ pub fn next_entry(bytes: &[u8], at: &mut usize, stop: &mut u32, part: &mut usize
         (stored_at (head_of bytes.now).N bytes.now at.old).stop stop.old }
     ensures part_after { part.new ≡ cond (stands_at bytes.now at.old) (at.old + stop_length) part.old }
 {
-    let from = *at;
-    if !stands_at(bytes, from) {
+    if !stands_at(bytes, *at) {
         return false;
     }
-    let number = stop_in(bytes, from);
-    let next = next_at(bytes, from);
-    *at = next;
-    *stop = number;
-    *part = from + STOP_BYTES;
+    *stop = stop_in(bytes, *at);
+    *part = *at + STOP_BYTES;
+    *at = next_at(bytes, *at);
     true
 }

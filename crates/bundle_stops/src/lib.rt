@@ -25,8 +25,7 @@ fn stop_of(file: &[u8], k: usize) -> u32
     requires { k < 65536 }
     ensures { (result ≡ stop_in file.now (entry_start (head_of file.now).N k)) × (result < 65536) }
 {
-    let n = coefficient_count(file);
-    let width = entry_length(n);
+    let width = entry_length(coefficient_count(file));
     stop_in(file, FIRST_ENTRY + width * k)
 }
 

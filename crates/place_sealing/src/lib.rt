@@ -1,5 +1,5 @@
 // Sealing from a list of places: what `sealing` gives with the array that the list spreads to.
-// It ends with `Done`, or with document 02's first refusal that applies, and then its output is as it came.
+// It ends with `Ok`, or with document 02's first refusal that applies, and then its output is as it came.
 // At every N `seal_places` takes less than 20 KiB of stack.
 
 #![tactic(auto)]

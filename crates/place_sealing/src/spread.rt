@@ -29,9 +29,8 @@ pub(crate) fn refusal_before_places(
 ) -> Result<(), Refusal>
     ensures { answered result ≡ outcome (parameter_checks (set_of p) ++ before_places (set_of p) h.now records message room) tt }
 {
-    let lengths = has_lengths(p, h.len(), records, message, room);
     p.check()?;
-    Refusal::WrongLength.when(!lengths)?;
+    Refusal::WrongLength.when(!has_lengths(p, h.len(), records, message, room))?;
     check_array(p, ArraySet::ReducedModuloQ, h)
 }
 
@@ -47,7 +46,7 @@ pub(crate) fn seal_spread(
     ensures { Gives (places_sealing (set_of p) h.now places.now message.now (length e.old))
         (number (answered result)) e.old e.new }
 {
-    let mut room = arrays::zeros();
+    let mut room = [0i32; 2048];
     let phi = &mut room[..2 * (p.n as usize)];
     place_spreading::spread_places(p, places, phi)?;
     sealing::seal(p, h, phi, message, e)

@@ -43,7 +43,7 @@ pub(crate) fn spread_into(p: Parameters, places: &[PlacedUnit], phi: &mut [i32])
     ensures { Gives (outcome (place_checks (set_of p) places.now) (array p.n (spread places.now)))
         (number (answered result)) phi.old phi.new }
 {
-    let mut laid = arrays::zeros();
+    let mut laid = [0i32; 2048];
     let x = &mut laid[..2 * (p.n as usize)];
     lay_checked(p, places, x)?;
     phi.copy_from_slice(x);

@@ -1,6 +1,6 @@
 // Spreading: a list of places to the full array of its ephemeral.
 // It seals nothing.
-// It ends with `Done`, or with document 02's first refusal that applies, and then its output is as it came.
+// It ends with `Ok`, or with document 02's first refusal that applies, and then its output is as it came.
 // At every N `spread_places` takes less than 12 KiB of stack.
 
 #![tactic(auto)]
@@ -23,8 +23,7 @@ pub fn spread_places(p: Parameters, places: &[PlacedUnit], phi: &mut [i32]) -> R
     ensures { Gives (spreading (set_of p) places.now (length phi.old))
         (number (answered result)) phi.old phi.new }
 {
-    let lengths = checked::has_lengths(p, places.len(), phi.len());
     p.check()?;
-    Refusal::WrongLength.when(!lengths)?;
+    Refusal::WrongLength.when(!checked::has_lengths(p, places.len(), phi.len()))?;
     checked::spread_into(p, places, phi)
 }

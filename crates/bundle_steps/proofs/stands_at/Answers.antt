@@ -19,7 +19,7 @@ left at long all h false e = lt-leb long (all - at) (omega (arith, leb-false (at
 
 pub returns-then-at-bytes : goal.returns-then-at-bytes
 unfolding stands_at
-returns-then-at-bytes c = ap (λ (long : ℕ). leb long (length c.args.bytes.now - c.args.at)) (c.entry_length.ensures ∙ ap entry_length c.coefficient_count-n.ensures.0)
+returns-then-at-bytes c = ap (λ (long : ℕ). leb long (length c.args.bytes.now - c.args.at)) (c.entry_length.ensures ∙ ap entry_length c.coefficient_count.ensures.0)
     ∙ left c.args.at (entry_length (head_of c.args.bytes.now).N) (length c.args.bytes.now) c.if-at-bytes.true _ refl
 
 pub returns-else-at-bytes : goal.returns-else-at-bytes

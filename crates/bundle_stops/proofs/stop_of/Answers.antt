@@ -11,7 +11,7 @@ use Rattle.bundle_stops.proofs.stop_of.Goals as goal
 pub overflow_mul-width : goal.overflow_mul-width
 unfolding entry_start
 overflow_mul-width c =
-    let small : c.entry_length-width.result * c.args.k ≤ (2 + 4 * 65535) * 65535 = let n = c.coefficient_count-n in
+    let small : c.entry_length-width.result * c.args.k ≤ (2 + 4 * 65535) * 65535 = let n = c.coefficient_count in
     let short : c.entry_length-width.result ≤ 2 + 4 * 65535 = omega (arith, c.entry_length-width.ensures, entry_length_lem n.result, n.ensures.1) in
     let few : c.args.k ≤ 65535 = omega (arith, c.requires) in
     mul-le-mul short few in
@@ -20,7 +20,7 @@ overflow_mul-width c =
 pub overflow_add-width : goal.overflow_add-width
 unfolding entry_start
 overflow_add-width c =
-    let small : c.entry_length-width.result * c.args.k ≤ (2 + 4 * 65535) * 65535 = let n = c.coefficient_count-n in
+    let small : c.entry_length-width.result * c.args.k ≤ (2 + 4 * 65535) * 65535 = let n = c.coefficient_count in
     let short : c.entry_length-width.result ≤ 2 + 4 * 65535 = omega (arith, c.entry_length-width.ensures, entry_length_lem n.result, n.ensures.1) in
     let few : c.args.k ≤ 65535 = omega (arith, c.requires) in
     mul-le-mul short few in
@@ -28,4 +28,4 @@ overflow_add-width c =
 
 pub returns : goal.returns
 unfolding entry_start
-returns c = (c.stop_in.ensures.0 ∙ ap (λ (l : ℕ). stop_in c.args.file.now (18 + l * c.args.k)) (c.entry_length-width.ensures ∙ ap entry_length c.coefficient_count-n.ensures.0), c.stop_in.ensures.1)
+returns c = (c.stop_in.ensures.0 ∙ ap (λ (l : ℕ). stop_in c.args.file.now (18 + l * c.args.k)) (c.entry_length-width.ensures ∙ ap entry_length c.coefficient_count.ensures.0), c.stop_in.ensures.1)

@@ -60,14 +60,14 @@ small : (s : Start) → s.args.p.n ≤ 1024
 small s = (accepted_parameters (set_of s.args.p) (done_all (parameter_checks (set_of s.args.p)) _ _ _ s.requires).0).N_small
 
 -- the part of the room that is lent
-part : (s : Start) (l : List ℤ) → l ≡ replicate 2048 (pos 0) → length (take (2 * s.args.p.n) l) ≡ 2 * s.args.p.n
-part s l e = zeros_part s.args.p.n l (small s) e
+part : (s : Start) → length (take (2 * s.args.p.n) (replicate 2048 (pos 0))) ≡ 2 * s.args.p.n
+part s = zeros_part s.args.p.n _ (small s) refl
 
 pub slice_bounds-room-end : goal.slice_bounds-room-end
-slice_bounds-room-end c = omega (arith, ap length c.zeros-room.ensures, small (goal.at.slice_bounds-room-end c).Start)
+slice_bounds-room-end c = omega (arith, small (goal.at.slice_bounds-room-end c).Start)
 
 pub slice_bounds-phi-end : goal.slice_bounds-phi-end
-slice_bounds-phi-end c = sym (part (goal.at.slice_bounds-phi-end c).Start c.zeros-room.result c.zeros-room.ensures)
+slice_bounds-phi-end c = sym (part (goal.at.slice_bounds-phi-end c).Start)
 
 pub returns : goal.returns
 returns c =
@@ -76,7 +76,7 @@ returns c =
 pub returns-in_err-spread_places : goal.returns-in_err-spread_places
 returns-in_err-spread_places c =
     let refusal = c.in_err-spread_places.field-0.0 in
-    let whole = part (goal.at.returns-in_err-spread_places c).Start c.zeros-room.result c.zeros-room.ensures in
+    let whole = part (goal.at.returns-in_err-spread_places c).Start in
     let refused-list = answer_refused _ c.spread_places.result refusal c.spread_places.ensures.0 c.in_err-spread_places.was in
     gives_same c.args.e.now
     (refused_so (set_of c.args.p) c.args.places.now c.args.h.now c.args.message.now _ (length c.args.e.now) (number_of refusal) c.requires whole (number_positive refusal) refused-list)

@@ -1,5 +1,5 @@
 -- `spread_into` meets its contract: the array of a list that is not refused is copied to phi.
-use mathlib.Core.Path.{◌≡◌, sym, ◌∙◌, ap}
+use mathlib.Core.Path.{◌≡◌, refl, sym, ◌∙◌}
 use mathlib.Core.List.{List}
 use Prim.Native.Nat.{◌*◌, ◌≤◌}
 use native.Mathlib.Omega.{arith}
@@ -7,8 +7,7 @@ use lib.IntN.{ℤ, pos}
 use lib.ListN.{length, take, replicate}
 use Rattle.refusals.proofs.Errors.{gives_passed_on}
 use Rattle.refusals.specs.Outcomes.{Check, Passes}
-use Rattle.refusals.specs.Numbers.{answered}
-use Rattle.refusals.proofs.Checks.{gives_done, gives_refused}
+use Rattle.refusals.proofs.Checks.{gives_done}
 use Rattle.parameters.specs.Sets.{set_of}
 use Rattle.parameters.proofs.AcceptedParameters.{accepted_parameters}
 use Rattle.polynomials.specs.Polynomials.{array}
@@ -29,21 +28,21 @@ small : (s : Start) → s.args.p.n ≤ 1024
 small s = (accepted_parameters (set_of s.args.p) s.requires.0).N_small
 
 -- the part of the zeros that is lent
-part : (s : Start) (l : List ℤ) → l ≡ replicate 2048 (pos 0) → length (take (2 * s.args.p.n) l) ≡ 2 * s.args.p.n
-part s l e = zeros_part s.args.p.n l (small s) e
+part : (s : Start) → length (take (2 * s.args.p.n) (replicate 2048 (pos 0))) ≡ 2 * s.args.p.n
+part s = zeros_part s.args.p.n _ (small s) refl
 
 pub slice_bounds-laid-end : goal.slice_bounds-laid-end
-slice_bounds-laid-end c = omega (arith, ap length c.zeros-laid.ensures, small (goal.at.slice_bounds-laid-end c).Start)
+slice_bounds-laid-end c = omega (arith, small (goal.at.slice_bounds-laid-end c).Start)
 
 pub slice_bounds-x-end : goal.slice_bounds-x-end
-slice_bounds-x-end c = sym (part (goal.at.slice_bounds-x-end c).Start c.zeros-laid.result c.zeros-laid.ensures)
+slice_bounds-x-end c = sym (part (goal.at.slice_bounds-x-end c).Start)
 
 pub lay_checked-requires-clause-zeros : goal.lay_checked-requires-clause-zeros
 lay_checked-requires-clause-zeros c =
-    (part (goal.at.lay_checked-requires-clause-zeros c).Start c.zeros-laid.result c.zeros-laid.ensures, part_zeros (2 * c.args.p.n) c.zeros-laid.result c.zeros-laid.ensures)
+    (part (goal.at.lay_checked-requires-clause-zeros c).Start, part_zeros (2 * c.args.p.n) _ refl)
 
 pub copy_from_slice-requires : goal.copy_from_slice-requires
-copy_from_slice-requires c = omega (arith, part (goal.at.copy_from_slice-requires c).Start c.zeros-laid.result c.zeros-laid.ensures)
+copy_from_slice-requires c = omega (arith, part (goal.at.copy_from_slice-requires c).Start)
 
 pub returns : goal.returns
 returns c =
