@@ -9,8 +9,12 @@ ghost use Rattle.refusals.specs.Outcomes.{outcome};
 ghost use Rattle.refusals.specs.Numbers.{answered};
 ghost use Rattle.eisenstein.specs.Values.{value, norm};
 ghost use Rattle.eisenstein.specs.Calls.{beyond};
+ghost use Rattle.parameters.specs.Checked.{checked};
 ghost use Rattle.parameters.specs.Sets.{set, set_of, outside, even, parameter_checks, parameters, made};
 
+mod checked_parameters;
+
+pub use checked_parameters::CheckedParameters;
 use refusals::Refusal;
 
 // N coefficients, the modulus q = (c, d), s nonzero coefficients of g and of the ephemeral φ, t of f.
@@ -93,6 +97,14 @@ impl Parameters {
         ensures { answered result ≡ outcome (parameter_checks (set_of self)) tt }
     {
         check_numbers(self.n, self.c, self.d, self.s, self.t)
+    }
+
+    // The same set as one that is accepted, or the first refusal.
+    pub fn checked(self) -> Result<CheckedParameters, Refusal>
+        ensures { checked result ≡ outcome (parameter_checks (set_of self)) self }
+    {
+        self.check()?;
+        Ok(CheckedParameters { parameters: self })
     }
 
     // A parameter set that is accepted, or the first refusal.
