@@ -27,6 +27,6 @@ pub enum ArraySet {
 pub fn check_array(p: Parameters, which: ArraySet, x: &[i32]) -> Result<(), Refusal>
     ensures { answered result ≡ array_check (set_of p) which x.now }
 {
-    p.check()?;
+    let p = p.checked()?;
     sets::array_refusal(p, which, x)
 }

@@ -20,22 +20,22 @@ use Rattle.array_sets.proofs.sets.in_set.Goals as goal
 use Rattle.array_sets.proofs.sets.in_set.Goals.{Start}
 
 abbrev tested : Start → ArraySet → Bool
-tested s a = in_set (set_of s.args.p) a s.args.x.now
+tested s a = in_set (set_of s.args.p.parameters) a s.args.x.now
 
-accepted : (s : Start) → Accepted (set_of s.args.p)
-accepted s = accepted_parameters (set_of s.args.p) s.requires.0
+accepted : (s : Start) → Accepted (set_of s.args.p.parameters)
+accepted s = accepted_parameters (set_of s.args.p.parameters) s.args.p.passes
 
-long : (s : Start) → full s.args.p.n (length s.args.x.now) ≡ true
-long s = eq-eqb _ _ s.requires.1
+long : (s : Start) → full s.args.p.parameters.n (length s.args.x.now) ≡ true
+long s = eq-eqb _ _ s.requires
 
-units_decide : (s : Start) (t : Bool) → (leb s.args.p.n 1024 && (full s.args.p.n (length s.args.x.now) && t)) ≡ t
-units_decide s t = rw (le-leb s.args.p.n 1024 (accepted s).N_small, long s)
+units_decide : (s : Start) (t : Bool) → (leb s.args.p.parameters.n 1024 && (full s.args.p.parameters.n (length s.args.x.now) && t)) ≡ t
+units_decide s t = rw (le-leb s.args.p.parameters.n 1024 (accepted s).N_small, long s)
 
 abbrev q : Start → ℤ[ω]
-q s = value s.args.p.c s.args.p.d
+q s = value s.args.p.parameters.c s.args.p.parameters.d
 
-reduced_decides : (s : Start) (t : Bool) → (full s.args.p.n (length s.args.x.now) && (not (beyond 4095 (q s)) && (not (same (q s) 𝟘) && t))) ≡ t
-reduced_decides s t = let a = accepted s in rw (long s, a.q_small, same_false (q s) 𝟘 (modulus_nonzero (set_of s.args.p) a))
+reduced_decides : (s : Start) (t : Bool) → (full s.args.p.parameters.n (length s.args.x.now) && (not (beyond 4095 (q s)) && (not (same (q s) 𝟘) && t))) ≡ t
+reduced_decides s t = let a = accepted s in rw (long s, a.q_small, same_false (q s) 𝟘 (modulus_nonzero (set_of s.args.p.parameters) a))
 
 pub returns-in-F : goal.returns-in-F
 returns-in-F c = c.units_only.ensures ∙ units_decide (goal.at.returns-in-F c).Start _ ∙ sym (ap (tested (goal.at.returns-in-F c).Start) c.in-F.is)
@@ -48,6 +48,6 @@ returns-in-Phi c = c.whole_triples-in-Phi.ensures ∙ units_decide (goal.at.retu
 
 pub returns-in-ReducedModuloQ : goal.returns-in-ReducedModuloQ
 returns-in-ReducedModuloQ c = c.reduced_modulo_q.ensures
-    ∙ ap (λ (y : ℤ[ω]). full c.args.p.n (length c.args.x.now) && (not (beyond 4095 y) && (not (same y 𝟘) && reduced_q c.args.p.n y (coefficient c.args.x.now)))) (pair_read {w = w32} (search rules) (search rules))
+    ∙ ap (λ (y : ℤ[ω]). full c.args.p.parameters.n (length c.args.x.now) && (not (beyond 4095 y) && (not (same y 𝟘) && reduced_q c.args.p.parameters.n y (coefficient c.args.x.now)))) (pair_read {w = w32} (search rules) (search rules))
     ∙ reduced_decides (goal.at.returns-in-ReducedModuloQ c).Start _
     ∙ sym (ap (tested (goal.at.returns-in-ReducedModuloQ c).Start) c.in-ReducedModuloQ.is)
