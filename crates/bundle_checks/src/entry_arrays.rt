@@ -24,8 +24,7 @@ fn array_refusal(p: Parameters, file: &[u8], at: usize, x: &mut [i32]) -> Result
     requires { length (part_at file.now at) ≡ 2 * length x.old }
     ensures { answered result ≡ array_check (set_of p) ReducedModuloQ (numbers_from (part_at file.now at)) }
 {
-    let part = array_at(file, at);
-    read_numbers(part, x);
+    read_numbers(array_at(file, at), x);
     check_array(p, ArraySet::ReducedModuloQ, x)
 }
 
@@ -47,8 +46,6 @@ pub(crate) fn arrays_refusal(p: Parameters, file: &[u8]) -> Result<(), Refusal>
     requires { (set_of p ≡ head_of file.now) × Passes (count_checks file.now) }
     ensures { answered result ≡ outcome (arrays_checks (head_of file.now) (entries_of file.now)) tt }
 {
-    let n = p.n;
-    let width = 2 * (n as usize);
-    let mut x = arrays::zeros();
-    arrays_refusal_in(p, file, &mut x[..width])
+    let mut x = [0i32; 2048];
+    arrays_refusal_in(p, file, &mut x[..2 * (p.n as usize)])
 }

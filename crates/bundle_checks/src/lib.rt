@@ -26,19 +26,10 @@ fn entries_refusal(p: Parameters, file: &[u8]) -> Result<(), Refusal>
     requires { (set_of p ≡ head_of file.now) × Passes (count_checks file.now) }
     ensures { answered result ≡ outcome (entries_checks (head_of file.now) (entries_of file.now)) tt }
 {
-    let twice = any_stop_twice(file);
-    if twice {
+    if any_stop_twice(file) {
         return Err(Refusal::StopOccursTwice);
     }
     arrays_refusal(p, file)
-}
-
-fn judged(p: Parameters, file: &[u8]) -> Result<Parameters, Refusal>
-    requires { (set_of p ≡ head_of file.now) × Passes (count_checks file.now) }
-    ensures { made result ≡ outcome (entries_checks (head_of file.now) (entries_of file.now)) (head_of file.now) }
-{
-    entries_refusal(p, file)?;
-    Ok(p)
 }
 
 // The parameters of a bundle that is accepted whole, or its first refusal.
@@ -46,7 +37,8 @@ pub fn check_bundle(file: &[u8]) -> Result<Parameters, Refusal>
     ensures { made result ≡ making_reader file.now }
 {
     let p = read_bundle_head(file)?;
-    judged(p, file)
+    entries_refusal(p, file)?;
+    Ok(p)
 }
 
 // Where a reader begins, and the parameters of the bundle or its first refusal.
@@ -59,14 +51,15 @@ pub struct Start {
 pub fn begin(bytes: &[u8]) -> Start
     ensures { (result.at ≡ start_of bytes.now) × (made result.made ≡ making_reader bytes.now) }
 {
-    match check_bundle(bytes) {
-        Ok(p) => Start {
+    let made = check_bundle(bytes);
+    match made {
+        Ok(_) => Start {
             at: FIRST_ENTRY,
-            made: Ok(p),
+            made,
         },
-        Err(refusal) => Start {
+        Err(_) => Start {
             at: bytes.len(),
-            made: Err(refusal),
+            made,
         },
     }
 }

@@ -14,14 +14,11 @@ pub(crate) fn read_arrays(file: &[u8], numbers: &mut [i32])
     requires { Passes (count_checks file.now) × (length numbers.old ≡ 2 * (head_of file.now).N * count_of file.now) }
     ensures { numbers.new ≡ numbers_of (entries_of file.now) }
 {
-    let n = coefficient_count(file);
-    let width = 2 * (n as usize);
-    let count = entry_count(file) as usize;
+    let width = 2 * (coefficient_count(file) as usize);
     let mut at = FIRST_ENTRY;
-    for k in 0..count {
-        let part = array_at(file, at);
+    for k in 0..entry_count(file) as usize {
         let from = width * k;
-        read_numbers(part, &mut numbers[from..from + width]);
+        read_numbers(array_at(file, at), &mut numbers[from..from + width]);
         at = next_at(file, at);
     }
 }

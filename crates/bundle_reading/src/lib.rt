@@ -42,11 +42,10 @@ fn read_entries(
     ensures gives_2 { Gives (outcome (output_checks file.now (length stops.old) (length numbers.old)) (numbers_of (entries_of file.now)))
         (number (answered result)) numbers.old numbers.new }
 {
-    let n = p.n;
-    if !outputs_right(n, file, stops.len(), numbers.len()) {
+    if !outputs_right(p.n, file, stops.len(), numbers.len()) {
         return Err(Refusal::WrongLength);
     }
-    let checked = check_bundle(file)?;
+    check_bundle(file)?;
     read_stops(file, stops);
     read_arrays(file, numbers);
     Ok(())

@@ -16,11 +16,9 @@ fn array_refusal(p: Parameters, stops: &[u16], numbers: &[i32], k: usize) -> Res
     requires { (length numbers.now ≡ 2 * p.n * length stops.now) × (k < length stops.now) }
     ensures { answered result ≡ array_check (set_of p) ReducedModuloQ (array_of (entries_given p.n stops.now numbers.now) k) }
 {
-    let n = p.n;
-    let width = 2 * (n as usize);
+    let width = 2 * (p.n as usize);
     let from = width * k;
-    let to = from + width;
-    check_array(p, ArraySet::ReducedModuloQ, &numbers[from..to])
+    check_array(p, ArraySet::ReducedModuloQ, &numbers[from..from + width])
 }
 
 pub(crate) fn arrays_refusal(p: Parameters, stops: &[u16], numbers: &[i32]) -> Result<(), Refusal>

@@ -1,5 +1,5 @@
 // The call that writes a bundle, from a parameter set, stops and the numbers of sealed arrays.
-// It writes to lent bytes, and opens no file of the system. It ends with `Done`, or with the first refusal that applies, and then its output is as it came.
+// It writes to lent bytes, and opens no file of the system. It ends with `Ok`, or with the first refusal that applies, and then its output is as it came.
 // At every N it takes less than 12 KiB of stack.
 
 #![tactic(auto)]
@@ -22,29 +22,13 @@ fn given_refusal(p: Parameters, stops: &[u16], numbers: &[i32], room: usize) -> 
     requires { Passes (parameter_checks (set_of p)) }
     ensures { answered result ≡ outcome (given_checks (set_of p) stops.now numbers.now room) tt }
 {
-    let n = p.n;
-    if !lengths::lengths_right(n, stops.len(), numbers.len(), room) {
+    if !lengths::lengths_right(p.n, stops.len(), numbers.len(), room) {
         return Err(Refusal::WrongLength);
     }
-    let twice = stop_sets::any_twice(stops);
-    if twice {
+    if stop_sets::any_twice(stops) {
         return Err(Refusal::StopOccursTwice);
     }
     entries::arrays_refusal(p, stops, numbers)
-}
-
-fn write_given(
-    p: Parameters,
-    stops: &[u16],
-    numbers: &[i32],
-    file: &mut [u8],
-) -> Result<(), Refusal>
-    requires { Passes (parameter_checks (set_of p)) }
-    ensures { Gives (writing_bundle (set_of p) stops.now numbers.now (length file.old)) (number (answered result)) file.old file.new }
-{
-    given_refusal(p, stops, numbers, file.len())?;
-    writing::write_file(p, stops, numbers, file);
-    Ok(())
 }
 
 // A bundle, to file. The numbers are the arrays of the entries, one after another.
@@ -57,5 +41,7 @@ pub fn write_bundle(
     ensures { Gives (writing_bundle (set_of p) stops.now numbers.now (length file.old)) (number (answered result)) file.old file.new }
 {
     p.check()?;
-    write_given(p, stops, numbers, file)
+    given_refusal(p, stops, numbers, file.len())?;
+    writing::write_file(p, stops, numbers, file);
+    Ok(())
 }

@@ -56,9 +56,8 @@ pub(crate) fn write_file(p: Parameters, stops: &[u16], numbers: &[i32], file: &m
     requires file_len { (length file.old ≡ entry_start p.n (length stops.now)) × (length file.old ≤ longest_bundle) × Small numbers.now }
     ensures { file.new ≡ bundle_of (set_of p) (entries_given p.n stops.now numbers.now) }
 {
-    let n = p.n;
     // Nothing is refused: the kind is known, and the parameters and the length have passed.
     let _ = write_head(kinds::BUNDLE, p, file);
     write_count(stops.len(), file);
-    write_entries(n, stops, numbers, &mut file[FIRST_ENTRY..]);
+    write_entries(p.n, stops, numbers, &mut file[FIRST_ENTRY..]);
 }
