@@ -8,6 +8,6 @@ use Rattle.etru_c.proofs.etru_check_parameters.Goals as goal
 
 pub returns : goal.returns
 unfolding parameters
-returns c = c.number.ensures
+returns c = c.status.ensures
     ∙ ap number (rw (pair_read c.ranges.c c.ranges.d) at c.check.ensures)
     ∙ same_number (parameter_checks (set c.args.n c.args.c c.args.d c.args.s c.args.t)) tt _

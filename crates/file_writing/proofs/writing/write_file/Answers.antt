@@ -16,6 +16,6 @@ use Rattle.file_writing.proofs.writing.write_file.Goals as goal
 pub returns : goal.returns
 unfolding file_of head_bytes bytes16
 returns c = let head = head_bytes c.args.kind (set_of c.args.p) in
-    let file = c.write_head-answer.new.file in
-    put_behind head_length head (drop head_length c.args.file.now) file c.write_numbers.new.bytes refl (head_written c.args.kind (set_of c.args.p) c.args.file.now c.requires.t.0 c.requires.t.1 (omega (arith, c.requires.file_len.0)) c.write_head-answer.ensures)
+    let file = c.write_head.new.file in
+    put_behind head_length head (drop head_length c.args.file.now) file c.write_numbers.new.bytes refl (head_written c.args.kind (set_of c.args.p) c.args.file.now c.requires.t.0 c.requires.t.1 (omega (arith, c.requires.file_len.0)) c.write_head.ensures)
     ∙ ap (head ++◌) (numbers_written c.args.numbers.now (take (length file - head_length) (drop head_length file)) c.write_numbers.ensures (ap length (rest_taken head_length file) ∙ length-drop head_length file ∙ omega (arith, c.requires.file_len.0)) c.requires.file_len.1)
