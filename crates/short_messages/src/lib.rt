@@ -26,13 +26,6 @@ pub fn longest_short(n: u32) -> usize
     (2 * (n as usize) - 1) / 8
 }
 
-// Zeros, with room for the longest message: 256 bytes of the caller's stack.
-pub fn message_room() -> [u8; 256]
-    ensures { result ≡ replicate 256 0 }
-{
-    [0u8; 256]
-}
-
 // Byte j of the bits of a short message, the 1 and the zeros.
 fn padded_byte(message: &[u8], j: usize) -> u8
     ensures { result ≡ byte (padded_bit message.now) j }
@@ -59,9 +52,7 @@ pub fn pad(message: &[u8], out: &mut [u8])
 pub fn last_one(n: u32, message: &[u8]) -> Option<usize>
     ensures { result ≡ last_one (2 * n) (bit_of message.now) }
 {
-    let mut k = 2 * (n as usize);
-    while 0 < k {
-        k -= 1;
+    for k in (0..2 * (n as usize)).rev() {
         if bit_of(message, k) == 1 {
             return Some(k);
         }
