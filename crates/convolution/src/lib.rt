@@ -20,10 +20,7 @@ use refusals::Refusal;
 pub fn convolve(p: Parameters, x: &[i32], y: &[i32], out: &mut [i32]) -> Result<(), Refusal>
     ensures { Gives (convolving (set_of p) x.now y.now (length out.old)) (number (answered result)) out.old out.new }
 {
-    let n = p.n;
-    let c = p.c;
-    let d = p.d;
     let formed = convolve_up_to_16(p, x, y, out)?;
-    wrapping::convolve_unless(formed, x, y, n as usize, c, d, out);
+    wrapping::convolve_unless(formed, x, y, p.n as usize, p.c, p.d, out);
     Ok(())
 }

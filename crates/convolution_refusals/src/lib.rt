@@ -36,9 +36,6 @@ fn operand_refusal(x: &[i32], y: &[i32], room: usize, n: u32, c: i32, d: i32) ->
 pub fn convolving_refusal(p: Parameters, x: &[i32], y: &[i32], room: usize) -> Result<(), Refusal>
     ensures { answered result ≡ outcome (parameter_checks (set_of p) ++ convolving_checks p.n (value p.c p.d) x.now y.now room) tt }
 {
-    let n = p.n;
-    let c = p.c;
-    let d = p.d;
     p.check()?;
-    operand_refusal(x, y, room, n, c, d)
+    operand_refusal(x, y, room, p.n, p.c, p.d)
 }

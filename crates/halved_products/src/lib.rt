@@ -44,9 +44,6 @@ pub fn convolve_up_to_16(
     ensures { Begins (beginning (set_of p) x.now y.now (length out.old))
         (array p.n (λ i. mod_q (value p.c p.d) (convolution p.n (coefficient x.now) (coefficient y.now) i))) (answered result) out.old out.new }
 {
-    let n = p.n;
-    let c = p.c;
-    let d = p.d;
     convolving_refusal(p, x, y, out.len())?;
-    Ok(few::convolve_few(x, y, n as usize, c, d, out))
+    Ok(few::convolve_few(x, y, p.n as usize, p.c, p.d, out))
 }

@@ -38,15 +38,12 @@ fn inverse_refusal_with(
     requires { KeyArrays (set_of p) f.now f2.now fq.now × (length product.old ≡ 2 * p.n) }
     ensures { answered result ≡ outcome (inverse_checks (set_of p) f.now f2.now fq.now) tt }
 {
-    let n = p.n;
-    let c = p.c;
-    let d = p.d;
-    products::multiply_units_modulo_2(n, f, f2, product);
-    if !is_one(product, n as usize) {
+    products::multiply_units_modulo_2(p.n, f, f2, product);
+    if !is_one(product, p.n as usize) {
         return Err(Refusal::NotInverseModulo2);
     }
-    products::multiply_units_modulo_q(n, c, d, f, fq, product);
-    if !is_one(product, n as usize) {
+    products::multiply_units_modulo_q(p.n, p.c, p.d, f, fq, product);
+    if !is_one(product, p.n as usize) {
         return Err(Refusal::NotInverseModuloQ);
     }
     Ok(())
@@ -62,8 +59,6 @@ pub(crate) fn inverse_refusal(
     requires { KeyArrays (set_of p) f.now f2.now fq.now }
     ensures { answered result ≡ outcome (inverse_checks (set_of p) f.now f2.now fq.now) tt }
 {
-    let n = p.n;
-    let k = 2 * (n as usize);
-    let mut product = arrays::zeros();
-    inverse_refusal_with(p, f, f2, fq, &mut product[..k])
+    let mut product = [0i32; 2048];
+    inverse_refusal_with(p, f, f2, fq, &mut product[..2 * (p.n as usize)])
 }

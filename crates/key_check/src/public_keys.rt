@@ -19,8 +19,5 @@ pub(crate) fn write_public_key(
     requires { Passes (parameter_checks (set_of p) ++ key_checks (set_of p) f.now f2.now fq.now g.now (length h.old)) }
     ensures { h.new ≡ array p.n (public_key (set_of p) (coefficient fq.now) (coefficient g.now)) }
 {
-    let n = p.n;
-    let c = p.c;
-    let d = p.d;
-    products::multiply_units_modulo_q(n, c, d, g, fq, h);
+    products::multiply_units_modulo_q(p.n, p.c, p.d, g, fq, h);
 }

@@ -18,7 +18,7 @@ use Rattle.etru.proofs.Passed.{Ready, Units, remainders}
 use Rattle.etru.proofs.Products.{product-formed, formed_modulo_q}
 use Rattle.key_check.proofs.Ones.{is_one_modulo_2, is_one_modulo_q}
 use Rattle.key_check.proofs.inverses.inverse_refusal_with.Goals as goal
-use Rattle.key_check.proofs.inverses.inverse_refusal_with.Goals.{After-multiply_units_modulo_2, After-multiply_units_modulo_q, Start}
+use Rattle.key_check.proofs.inverses.inverse_refusal_with.Goals.{Start}
 
 abbrev P : Start → ParameterSet
 P s = set_of s.args.p
@@ -48,38 +48,31 @@ f_units s = record { long = s.requires.0.f_full; units = units-all (P s).N (P s)
 F2_ready : (s : Start) → Ready (P s).N s.args.f2.now
 F2_ready s = record { long = s.requires.0.F2_full; small = reduced2-small (P s).N s.args.f2.now s.requires.0.F2_full s.requires.0.F2_reduced }
 
--- the function's start, from each product on
-abbrev start : After-multiply_units_modulo_2 → Start
-start c = c.before.before.before.before
-
-abbrev start_q : After-multiply_units_modulo_q → Start
-start_q c = start c.before.before.before.before.before
-
 pub returns-then-not-is_one : goal.returns-then-not-is_one
 returns-then-not-is_one c =
-    let modulo_2_is : c.multiply_units_modulo_2.new.out ≡ array (P (goal.at.returns-then-not-is_one c).Start).N (λ i. mod2 (by_F2 (goal.at.returns-then-not-is_one c).Start i)) = let s = start (goal.at.returns-then-not-is_one c).After-multiply_units_modulo_2 in
+    let modulo_2_is : c.multiply_units_modulo_2.new.out ≡ array (P (goal.at.returns-then-not-is_one c).Start).N (λ i. mod2 (by_F2 (goal.at.returns-then-not-is_one c).Start i)) = let s = (goal.at.returns-then-not-is_one c).Start in
     product-formed (P s) (accepted s) s.args.product.now (f_units s) (F2_ready s) s.requires.1 _ c.multiply_units_modulo_2.ensures in
     let tested_13 : c.is_one.result ≡ test_13 (goal.at.returns-then-not-is_one c).Start = c.is_one.ensures ∙ is_one_modulo_2 (P (goal.at.returns-then-not-is_one c).Start).N (by_F2 (goal.at.returns-then-not-is_one c).Start) _ modulo_2_is in
     sym (call_refused 13 _ tt tested_13 (ap not c.if-not-is_one.true))
 
 pub returns-then-not-is_one-2 : goal.returns-then-not-is_one-2
 returns-then-not-is_one-2 c =
-    let modulo_2_is : c.multiply_units_modulo_2.new.out ≡ array (P (goal.at.returns-then-not-is_one-2 c).Start).N (λ i. mod2 (by_F2 (goal.at.returns-then-not-is_one-2 c).Start i)) = let s = start (goal.at.returns-then-not-is_one-2 c).After-multiply_units_modulo_2 in
+    let modulo_2_is : c.multiply_units_modulo_2.new.out ≡ array (P (goal.at.returns-then-not-is_one-2 c).Start).N (λ i. mod2 (by_F2 (goal.at.returns-then-not-is_one-2 c).Start i)) = let s = (goal.at.returns-then-not-is_one-2 c).Start in
     product-formed (P s) (accepted s) s.args.product.now (f_units s) (F2_ready s) s.requires.1 _ c.multiply_units_modulo_2.ensures in
-    let modulo_q_is : c.multiply_units_modulo_q.new.out ≡ array (P (start_q (goal.at.returns-then-not-is_one-2 c).After-multiply_units_modulo_q)).N (λ i. mod_q (P (start_q (goal.at.returns-then-not-is_one-2 c).After-multiply_units_modulo_q)).q (by_Fq (start_q (goal.at.returns-then-not-is_one-2 c).After-multiply_units_modulo_q) i)) = let s = start_q (goal.at.returns-then-not-is_one-2 c).After-multiply_units_modulo_q in
+    let modulo_q_is : c.multiply_units_modulo_q.new.out ≡ array (P ((goal.at.returns-then-not-is_one-2 c).Start)).N (λ i. mod_q (P ((goal.at.returns-then-not-is_one-2 c).Start)).q (by_Fq ((goal.at.returns-then-not-is_one-2 c).Start) i)) = let s = (goal.at.returns-then-not-is_one-2 c).Start in
     formed_modulo_q (P s) (accepted s) c.multiply_units_modulo_2.new.out (f_units s) (remainders (P s) (accepted s) s.args.fq.now s.requires.0.Fq_full s.requires.0.Fq_reduced) (ap length modulo_2_is ∙ array_length (P s).N _) (pair_read {w = w32} (search rules) (search rules)) c.multiply_units_modulo_q.ensures in
-    let tested_14 : c.is_one-2.result ≡ test_14 (start_q (goal.at.returns-then-not-is_one-2 c).After-multiply_units_modulo_q) = c.is_one-2.ensures ∙ is_one_modulo_q (P (start_q (goal.at.returns-then-not-is_one-2 c).After-multiply_units_modulo_q)) (accepted (start_q (goal.at.returns-then-not-is_one-2 c).After-multiply_units_modulo_q)) (by_Fq (start_q (goal.at.returns-then-not-is_one-2 c).After-multiply_units_modulo_q)) _ modulo_q_is in
+    let tested_14 : c.is_one-2.result ≡ test_14 ((goal.at.returns-then-not-is_one-2 c).Start) = c.is_one-2.ensures ∙ is_one_modulo_q (P ((goal.at.returns-then-not-is_one-2 c).Start)) (accepted ((goal.at.returns-then-not-is_one-2 c).Start)) (by_Fq ((goal.at.returns-then-not-is_one-2 c).Start)) _ modulo_q_is in
     let tested_13 : c.is_one.result ≡ test_13 (goal.at.returns-then-not-is_one-2 c).Start = c.is_one.ensures ∙ is_one_modulo_2 (P (goal.at.returns-then-not-is_one-2 c).Start).N (by_F2 (goal.at.returns-then-not-is_one-2 c).Start) _ modulo_2_is in
-    let after_13 : let s = start (goal.at.returns-then-not-is_one-2 c).After-multiply_units_modulo_2 in outcome (13 if not (test_13 s) ∷ from_14 s) (tt {0}) ≡ outcome (from_14 s) (tt {0}) = call_passed 13 _ tt tested_13 (ap not c.if-not-is_one.false) in
+    let after_13 : let s = (goal.at.returns-then-not-is_one-2 c).Start in outcome (13 if not (test_13 s) ∷ from_14 s) (tt {0}) ≡ outcome (from_14 s) (tt {0}) = call_passed 13 _ tt tested_13 (ap not c.if-not-is_one.false) in
     sym (after_13 ∙ call_refused 14 _ tt tested_14 (ap not c.if-not-is_one-2.true))
 
 pub returns : goal.returns
 returns c =
-    let modulo_2_is : c.multiply_units_modulo_2.new.out ≡ array (P (goal.at.returns c).Start).N (λ i. mod2 (by_F2 (goal.at.returns c).Start i)) = let s = start (goal.at.returns c).After-multiply_units_modulo_2 in
+    let modulo_2_is : c.multiply_units_modulo_2.new.out ≡ array (P (goal.at.returns c).Start).N (λ i. mod2 (by_F2 (goal.at.returns c).Start i)) = let s = (goal.at.returns c).Start in
     product-formed (P s) (accepted s) s.args.product.now (f_units s) (F2_ready s) s.requires.1 _ c.multiply_units_modulo_2.ensures in
-    let modulo_q_is : c.multiply_units_modulo_q.new.out ≡ array (P (start_q (goal.at.returns c).After-multiply_units_modulo_q)).N (λ i. mod_q (P (start_q (goal.at.returns c).After-multiply_units_modulo_q)).q (by_Fq (start_q (goal.at.returns c).After-multiply_units_modulo_q) i)) = let s = start_q (goal.at.returns c).After-multiply_units_modulo_q in
+    let modulo_q_is : c.multiply_units_modulo_q.new.out ≡ array (P ((goal.at.returns c).Start)).N (λ i. mod_q (P ((goal.at.returns c).Start)).q (by_Fq ((goal.at.returns c).Start) i)) = let s = (goal.at.returns c).Start in
     formed_modulo_q (P s) (accepted s) c.multiply_units_modulo_2.new.out (f_units s) (remainders (P s) (accepted s) s.args.fq.now s.requires.0.Fq_full s.requires.0.Fq_reduced) (ap length modulo_2_is ∙ array_length (P s).N _) (pair_read {w = w32} (search rules) (search rules)) c.multiply_units_modulo_q.ensures in
-    let tested_14 : c.is_one-2.result ≡ test_14 (start_q (goal.at.returns c).After-multiply_units_modulo_q) = c.is_one-2.ensures ∙ is_one_modulo_q (P (start_q (goal.at.returns c).After-multiply_units_modulo_q)) (accepted (start_q (goal.at.returns c).After-multiply_units_modulo_q)) (by_Fq (start_q (goal.at.returns c).After-multiply_units_modulo_q)) _ modulo_q_is in
+    let tested_14 : c.is_one-2.result ≡ test_14 ((goal.at.returns c).Start) = c.is_one-2.ensures ∙ is_one_modulo_q (P ((goal.at.returns c).Start)) (accepted ((goal.at.returns c).Start)) (by_Fq ((goal.at.returns c).Start)) _ modulo_q_is in
     let tested_13 : c.is_one.result ≡ test_13 (goal.at.returns c).Start = c.is_one.ensures ∙ is_one_modulo_2 (P (goal.at.returns c).Start).N (by_F2 (goal.at.returns c).Start) _ modulo_2_is in
-    let after_13 : let s = start (goal.at.returns c).After-multiply_units_modulo_2 in outcome (13 if not (test_13 s) ∷ from_14 s) (tt {0}) ≡ outcome (from_14 s) (tt {0}) = call_passed 13 _ tt tested_13 (ap not c.if-not-is_one.false) in
+    let after_13 : let s = (goal.at.returns c).Start in outcome (13 if not (test_13 s) ∷ from_14 s) (tt {0}) ≡ outcome (from_14 s) (tt {0}) = call_passed 13 _ tt tested_13 (ap not c.if-not-is_one.false) in
     sym (after_13 ∙ call_passed 14 _ tt tested_14 (ap not c.if-not-is_one-2.false) ∙ none_left tt)
