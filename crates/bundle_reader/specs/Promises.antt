@@ -4,7 +4,6 @@ use Rattle.std.specs.Prelude.{◌≡◌, List, [], ℕ, suc, ◌≤◌, ◌<◌,
 use Rattle.std.specs.Borrow.{Bor}
 use Rattle.refusals.specs.Outcomes.{refused, outcome, Passes}
 use Rattle.parameters.specs.Sets.{made}
-use Rattle.heads.specs.Heads.{head_of}
 use Rattle.bundles.specs.Bundles.{count_of, Stored, stored_of}
 use Rattle.bundles.specs.Calls.{bundle_checks, making_reader}
 use Rattle.bundles.specs.Steps.{stop_at, part_at, next_at, start_of}

@@ -10,7 +10,7 @@ ghost use Rattle.heads.specs.Heads.{head_of};
 ghost use Rattle.bundles.specs.Calls.{making_reader};
 ghost use Rattle.bundles.specs.Steps.{stop_at, part_at, next_at, start_of};
 
-use bundle_checks::begin;
+use bundle_checks::{Start, begin};
 use bundle_steps::{array_at, next_at, stop_at};
 use parameters::Parameters;
 use refusals::Refusal;
@@ -33,21 +33,18 @@ pub struct Entry<'a> {
 pub fn make_reader<'a>(bytes: &'a [u8]) -> Reader<'a>
     ensures { (result.bytes ≡ bytes.entry) × (result.at ≡ start_of bytes.now) × (made result.made ≡ making_reader bytes.now) }
 {
-    let start = begin(bytes);
-    Reader {
-        bytes,
-        at: start.at,
-        made: start.made,
-    }
+    let Start { at, made } = begin(bytes);
+    Reader { bytes, at, made }
 }
 
 // What stands where the reader is.
 pub fn current<'a>(reader: Reader<'a>) -> Entry<'a>
     ensures { (result.stop ≡ stop_at reader.entry.bytes.now reader.entry.at) × (result.array.now ≡ part_at reader.entry.bytes.now reader.entry.at) }
 {
-    let stop = stop_at(reader.bytes, reader.at);
-    let array = array_at(reader.bytes, reader.at);
-    Entry { stop, array }
+    Entry {
+        stop: stop_at(reader.bytes, reader.at),
+        array: array_at(reader.bytes, reader.at),
+    }
 }
 
 // The reader at the next entry; past the end it stays where it is.
@@ -55,8 +52,7 @@ pub fn next<'a>(reader: Reader<'a>) -> Reader<'a>
     ensures { (result.bytes ≡ reader.entry.bytes) × (result.at ≡ next_at reader.entry.bytes.now reader.entry.at) × (result.made ≡ reader.entry.made) }
 {
     Reader {
-        bytes: reader.bytes,
         at: next_at(reader.bytes, reader.at),
-        made: reader.made,
+        ..reader
     }
 }

@@ -1,5 +1,5 @@
 // The call that opens an entry of a bundle: its part, 4N of the bundle's bytes, to its message.
-// It reads no bundle. It ends with `Done`, or with the first refusal that applies, and then its output is as it came.
+// It reads no bundle. It ends with `Ok`, or with the first refusal that applies, and then its output is as it came.
 // At every N it takes less than 28 KiB of stack.
 
 #![tactic(auto)]

@@ -1,6 +1,6 @@
 // An entry's part is read and opened where the parameters have passed.
 // The array that its numbers are read to gives its room to the message's polynomial, so that no more stack is taken than by opening an array.
-ghost use Rattle.std.specs.Prelude.{◌≡◌, ◌++◌, ◌*◌, ◌≤◌, length};
+ghost use Rattle.std.specs.Prelude.{◌≡◌, ◌++◌, ◌*◌, ◌^◌, ◌≤◌, length};
 ghost use Rattle.refusals.specs.Outcomes.{number, Gives, Passes};
 ghost use Rattle.refusals.specs.Numbers.{answered};
 ghost use Rattle.parameters.specs.Sets.{set_of, parameter_checks};
@@ -28,13 +28,10 @@ fn open_over(
     requires product_len { length product.old ≡ 2 * p.n }
     ensures { message.new ≡ unpacked p.n (opened (set_of p) (coefficient f.now) (coefficient f2.now) (coefficient e.old)) }
 {
-    let n = p.n;
-    let c = p.c;
-    let d = p.d;
-    products::multiply_units_modulo_q(n, c, d, f, e, product);
-    products::multiply_units_modulo_2(n, f2, product, e);
+    products::multiply_units_modulo_q(p.n, p.c, p.d, f, e, product);
+    products::multiply_units_modulo_2(p.n, f2, product, e);
     // Nothing is refused: the lengths have passed, and the product is reduced modulo 2.
-    let _ = message_unpacking::unpack(n, e, message);
+    let _ = message_unpacking::unpack(p.n, e, message);
 }
 
 // Reads the part's numbers to x, and opens them if they are not refused.
@@ -57,45 +54,34 @@ fn open_part(
     Ok(())
 }
 
-// With room for two arrays of N up to 128, 2 KiB to clear.
-fn open_few(
+// The same, with room of its own for both arrays, ROOM numbers each.
+fn open_in<const ROOM: usize>(
     p: Parameters,
     f: &[i32],
     f2: &[i32],
     part: &[u8],
     message: &mut [u8],
 ) -> Result<(), Refusal>
-    requires { (p.n ≤ 128) × (length part.now ≡ 4 * p.n) }
+    requires room { (2 * p.n ≤ ROOM) × (ROOM ≤ 2 ^ 16) }
+    requires length { length part.now ≡ 4 * p.n }
     ensures { Gives (opening (set_of p) f.now f2.now (numbers_from part.now) (length message.old))
         (number (answered result)) message.old message.new }
 {
-    let n = p.n;
-    let k = 2 * (n as usize);
-    let mut x = arrays::few_zeros();
-    let mut product = arrays::few_zeros();
-    open_part(p, f, f2, part, &mut x[..k], &mut product[..k], message)
+    let width = 2 * (p.n as usize);
+    let mut x = [0i32; ROOM];
+    let mut product = [0i32; ROOM];
+    open_part(
+        p,
+        f,
+        f2,
+        part,
+        &mut x[..width],
+        &mut product[..width],
+        message,
+    )
 }
 
-// With room for every N, 16 KiB.
-fn open_many(
-    p: Parameters,
-    f: &[i32],
-    f2: &[i32],
-    part: &[u8],
-    message: &mut [u8],
-) -> Result<(), Refusal>
-    requires { (p.n ≤ 1024) × (length part.now ≡ 4 * p.n) }
-    ensures { Gives (opening (set_of p) f.now f2.now (numbers_from part.now) (length message.old))
-        (number (answered result)) message.old message.new }
-{
-    let n = p.n;
-    let k = 2 * (n as usize);
-    let mut x = arrays::zeros();
-    let mut product = arrays::zeros();
-    open_part(p, f, f2, part, &mut x[..k], &mut product[..k], message)
-}
-
-// 7 if the part has not 4N bytes. Where N is small, room for a large one is not cleared.
+// 7 if the part has not 4N bytes. Where N is small, 2 KiB are cleared, and not the 16 KiB that a large one needs.
 pub(crate) fn open_checked(
     p: Parameters,
     f: &[i32],
@@ -107,12 +93,11 @@ pub(crate) fn open_checked(
     ensures { Gives (opening_entry (set_of p) f.now f2.now part.now (length message.old))
         (number (answered result)) message.old message.new }
 {
-    let n = p.n;
-    if part.len() != 4 * (n as usize) {
+    if part.len() != 4 * (p.n as usize) {
         return Err(Refusal::WrongLength);
     }
-    if n <= 128 {
-        return open_few(p, f, f2, part, message);
+    if p.n <= 128 {
+        return open_in::<256>(p, f, f2, part, message);
     }
-    open_many(p, f, f2, part, message)
+    open_in::<2048>(p, f, f2, part, message)
 }

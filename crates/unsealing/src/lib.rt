@@ -1,6 +1,6 @@
 // Unsealing: document 01's call of opening, the array e to its message.
 // It reads no file, and does not ask again whether F2 is the inverse of f.
-// It ends with `Done`, or with document 01's first refusal that applies, and then its output is as it came.
+// It ends with `Ok`, or with document 01's first refusal that applies, and then its output is as it came.
 // At every N `open` takes less than 28 KiB of stack.
 
 #![tactic(auto)]

@@ -1,5 +1,5 @@
 // F2 × (f × e reduced modulo q) reduced modulo 2, as message bytes, where opening's checks have passed.
-ghost use Rattle.std.specs.Prelude.{◌≡◌, ◌++◌, ◌*◌, ◌≤◌, length};
+ghost use Rattle.std.specs.Prelude.{◌≡◌, ◌++◌, ◌*◌, ◌^◌, ◌≤◌, length};
 ghost use Rattle.refusals.specs.Outcomes.{Passes};
 ghost use Rattle.parameters.specs.Sets.{set_of, parameter_checks};
 ghost use Rattle.polynomials.specs.Polynomials.{coefficient};
@@ -23,49 +23,32 @@ fn open_with(
     requires product_len { (length product.old ≡ 2 * p.n) × (length m.old ≡ 2 * p.n) }
     ensures { message.new ≡ unpacked p.n (opened (set_of p) (coefficient f.now) (coefficient f2.now) (coefficient e.now)) }
 {
-    let n = p.n;
-    let c = p.c;
-    let d = p.d;
-    products::multiply_units_modulo_q(n, c, d, f, e, product);
-    products::multiply_units_modulo_2(n, f2, product, m);
+    products::multiply_units_modulo_q(p.n, p.c, p.d, f, e, product);
+    products::multiply_units_modulo_2(p.n, f2, product, m);
     // Nothing is refused: the lengths have passed, and the product is reduced modulo 2.
-    let _ = message_unpacking::unpack(n, m, message);
+    let _ = message_unpacking::unpack(p.n, m, message);
 }
 
-// With room for two products of N up to 128, 2 KiB to clear.
-fn open_few(p: Parameters, f: &[i32], f2: &[i32], e: &[i32], message: &mut [u8])
-    requires n_bound { p.n ≤ 128 }
+// The same, with room of its own for both products, ROOM numbers each.
+fn open_in<const ROOM: usize>(p: Parameters, f: &[i32], f2: &[i32], e: &[i32], message: &mut [u8])
+    requires room { (2 * p.n ≤ ROOM) × (ROOM ≤ 2 ^ 16) }
     requires passes { Passes (parameter_checks (set_of p) ++ opening_checks (set_of p) f.now f2.now e.now (length message.old)) }
     ensures { message.new ≡ unpacked p.n (opened (set_of p) (coefficient f.now) (coefficient f2.now) (coefficient e.now)) }
 {
-    let n = p.n;
-    let k = 2 * (n as usize);
-    let mut product = arrays::few_zeros();
-    let mut m = arrays::few_zeros();
-    open_with(p, f, f2, e, &mut product[..k], &mut m[..k], message);
+    let width = 2 * (p.n as usize);
+    let mut product = [0i32; ROOM];
+    let mut m = [0i32; ROOM];
+    open_with(p, f, f2, e, &mut product[..width], &mut m[..width], message);
 }
 
-// With room for every N, 16 KiB.
-fn open_many(p: Parameters, f: &[i32], f2: &[i32], e: &[i32], message: &mut [u8])
-    requires { Passes (parameter_checks (set_of p) ++ opening_checks (set_of p) f.now f2.now e.now (length message.old)) }
-    ensures { message.new ≡ unpacked p.n (opened (set_of p) (coefficient f.now) (coefficient f2.now) (coefficient e.now)) }
-{
-    let n = p.n;
-    let k = 2 * (n as usize);
-    let mut product = arrays::zeros();
-    let mut m = arrays::zeros();
-    open_with(p, f, f2, e, &mut product[..k], &mut m[..k], message);
-}
-
-// Where N is small, room for a large one is not cleared.
+// Where N is small, 2 KiB are cleared, and not the 16 KiB that a large one needs.
 pub(crate) fn open_into(p: Parameters, f: &[i32], f2: &[i32], e: &[i32], message: &mut [u8])
     requires { Passes (parameter_checks (set_of p) ++ opening_checks (set_of p) f.now f2.now e.now (length message.old)) }
     ensures { message.new ≡ unpacked p.n (opened (set_of p) (coefficient f.now) (coefficient f2.now) (coefficient e.now)) }
 {
-    let n = p.n;
-    if n <= 128 {
-        open_few(p, f, f2, e, message);
-        return;
+    if p.n <= 128 {
+        open_in::<256>(p, f, f2, e, message);
+    } else {
+        open_in::<2048>(p, f, f2, e, message);
     }
-    open_many(p, f, f2, e, message);
 }

@@ -1,6 +1,5 @@
 -- `entries_refusal` meets its contract: 25, then the arrays.
 use mathlib.Core.Path.{sym, ◌∙◌}
-use borrow.Author.Rules.{rules}
 use Rattle.refusals.proofs.Checks.{passed, refused_by}
 use Rattle.heads.specs.Heads.{head_of}
 use Rattle.bundles.specs.Bundles.{entries_of}

@@ -1,5 +1,4 @@
 -- `coefficient_count` meets its contract.
-use borrow.Author.Rules.{rules}
 use Rattle.heads.specs.Heads.{head_of}
 use Rattle.bundle_heads.proofs.coefficient_count.Goals as goal
 

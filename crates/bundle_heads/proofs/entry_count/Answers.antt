@@ -1,5 +1,4 @@
 -- `entry_count` meets its contract.
-use borrow.Author.Rules.{rules}
 use Rattle.bundles.specs.Bundles.{count_of}
 use Rattle.bundle_heads.proofs.entry_count.Goals as goal
 

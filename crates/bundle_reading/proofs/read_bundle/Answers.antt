@@ -1,7 +1,6 @@
 -- `read_bundle` meets its contract: the head, the count and the length, then the outputs and the entries.
 use mathlib.Core.Path.{sym}
 use mathlib.Core.List.{List, ◌++◌}
-use Prim.Native.Nat.{ℕ}
 use lib.ListN.{length}
 use Rattle.refusals.proofs.Errors.{gives_passed_on}
 use Rattle.refusals.specs.Outcomes.{Check}

@@ -2,8 +2,6 @@
 use mathlib.Core.Path.{◌≡◌, sym, ◌∙◌}
 use mathlib.Core.Bool.{true, false}
 use native.Mathlib.Omega.{arith}
-use borrow.Author.Rules.{rules}
-use borrow.Author.Tests.{not-true, not-false}
 use Rattle.heads.specs.Heads.{head_of}
 use Rattle.bundles.specs.Bundles.{stop_in, stored_at}
 use Rattle.bundles.specs.Steps.{stands_at}

@@ -1,8 +1,6 @@
 -- `stop_at` meets its contract.
 use Rattle.std.specs.Prelude.{Some}
 use mathlib.Core.Path.{sym, ◌∙◌, ap}
-use borrow.Author.Rules.{rules}
-use borrow.Author.Tests.{not-true, not-false}
 use Rattle.bundles.proofs.Steps.{stop_here, stop_past}
 use Rattle.bundle_steps.proofs.stop_at.Goals as goal
 

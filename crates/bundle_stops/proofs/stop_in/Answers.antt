@@ -1,5 +1,4 @@
 -- `stop_in` meets its contract.
-use borrow.Author.Rules.{rules}
 use Rattle.bundles.specs.Bundles.{stop_in}
 use Rattle.bundle_stops.proofs.stop_in.Goals as goal
 

@@ -3,7 +3,6 @@ use mathlib.Core.Path.{◌∙◌, ap}
 use Prim.Native.Nat.{ℕ, ◌+◌, ◌*◌, ◌≤◌}
 use native.Mathlib.Omega.{arith}
 use native.Mathlib.Nat.{mul-le-mul}
-use borrow.Author.Rules.{rules}
 use Rattle.bundles.specs.Bundles.{entry_length, entry_start, stop_in}
 use Rattle.bundles.proofs.Lengths.{entry_length_lem}
 use Rattle.bundle_stops.proofs.stop_of.Goals as goal

@@ -1,11 +1,9 @@
 -- `given_refusal` meets its contract: 7, 25, then the arrays.
 use mathlib.Core.Path.{◌≡◌, sym, ◌∙◌, ap}
-use mathlib.Core.Bool.{Bool, not}
-use mathlib.Core.List.{List}
-use lib.ListN.{length}
+use mathlib.Core.Bool.{not}
 use Rattle.refusals.proofs.Checks.{passed, refused_by, call_passed, call_refused}
 use Rattle.stop_sets.specs.Stops.{any_twice}
-use Rattle.bundles.specs.Bundles.{Entry, stops_of}
+use Rattle.bundles.specs.Bundles.{stops_of}
 use Rattle.bundles.specs.Calls.{entries_checks, entries_given}
 use Rattle.bundles.proofs.GivenEntries.{given_stops}
 use Rattle.bundle_writing.proofs.given_refusal.Goals as goal

@@ -1,10 +1,8 @@
 -- `open_entry` meets its contract: the parameters' refusals, then the part's.
-use mathlib.Core.Path.{refl, sym, ◌∙◌, ap}
-use borrow.Author.Rules.{rules}
+use mathlib.Core.Path.{refl, sym, ap}
 use lib.ListN.{length}
 use Rattle.refusals.specs.Outcomes.{number}
 use Rattle.refusals.proofs.Errors.{passed_on}
-use Rattle.refusals.specs.Numbers.{answered}
 use Rattle.refusals.proofs.Checks.{gives_same}
 use Rattle.parameters.specs.Sets.{set_of}
 use Rattle.entry_opening.proofs.Promises.{parameters_refused}

@@ -1,10 +1,8 @@
 -- `array_refusal` meets its contract.
 use mathlib.Core.Path.{◌≡◌, sym, ◌∙◌, ap}
-use Prim.Native.Nat.{ℕ, ◌+◌, ◌-◌, ◌*◌, ◌≤◌}
+use Prim.Native.Nat.{ℕ, ◌+◌, ◌-◌, ◌*◌}
 use native.Mathlib.Omega.{arith}
-use native.Mathlib.Nat.{mul-suc, mul-le-mul_left}
-use borrow.Author.Rules.{rules}
-use lib.ListN.{length, take, drop}
+use lib.ListN.{take, drop}
 use Rattle.parameters.specs.Sets.{set_of}
 use Rattle.array_sets.specs.declared.ArraySet.TheVariants.{ReducedModuloQ}
 use Rattle.array_sets.specs.Sets.{array_check}

@@ -3,7 +3,6 @@ use mathlib.Core.Path.{◌≡◌, refl, sym, ◌∙◌, ap, ap₂}
 use mathlib.Core.List.{List, [], ◌∷◌, ◌++◌, append_assoc}
 use Prim.Native.Nat.{ℕ, ◌+◌, ◌-◌, ◌*◌, ◌≤◌}
 use native.Mathlib.Omega.{arith}
-use borrow.Author.Rules.{rules}
 use lib.ListN.{length, take, drop, length-append, length-drop}
 use lib.Seq.{sets, sets-eq, length-sets, take_at, drop_at, drop-drop}
 use Rattle.parameters.specs.Sets.{set_of}
@@ -12,7 +11,6 @@ use Rattle.heads.specs.Heads.{head_length, bytes16, head_bytes}
 use Rattle.head_writing.proofs.WritingChecks.{head_written}
 use Rattle.files.proofs.Lists.{rest_taken, put_behind}
 use Rattle.bundles.specs.Bundles.{bundle_of}
-use Rattle.bundles.specs.Calls.{entries_given}
 use Rattle.bundles.proofs.Lengths.{start_is, entries_long}
 use Rattle.bundles.proofs.GivenEntries.{given_count}
 use Rattle.bundle_writing.proofs.writing.write_file.Goals as goal
@@ -65,7 +63,7 @@ write_entries-requires c =
     let w = (goal.at.write_entries-requires c).After-write_head in
     let file = c.write_count.new.file in
     let rest : length (take (length file - 18) (drop 18 file)) ≡ length c.args.file.now - 18 =
-        ap (λ (l : List ℕ). length l) (rest_taken 18 file) ∙ length-drop 18 file ∙ omega (arith, counted_length w c.write_count.ensures) in
+    ap (λ (l : List ℕ). length l) (rest_taken 18 file) ∙ length-drop 18 file ∙ omega (arith, counted_length w c.write_count.ensures) in
     record {
       numbers_len = (c.requires.passes.1, rest ∙ omega (arith, c.requires.file_len.0, start_is c.args.p.n (length c.args.stops.now)));
       out_len_bound = (omega (arith, rest, c.requires.file_len.1), c.requires.file_len.2);
@@ -76,7 +74,7 @@ unfolding bundle_of head_bytes bytes16
 returns c =
     let w = (goal.at.returns c).After-write_head in
     let counted : c.write_count.new.file ≡ (head w ++ bytes16 (length c.args.stops.now)) ++ drop 18 c.args.file.now =
-        c.write_count.ensures ∙ ap (λ (l : List ℕ). sets l 16 (bytes16 (length c.args.stops.now))) (headed w) ∙ stored_behind (head w) c.args.file.now _ _ refl (omega (arith, long w)) in
+    c.write_count.ensures ∙ ap (λ (l : List ℕ). sets l 16 (bytes16 (length c.args.stops.now))) (headed w) ∙ stored_behind (head w) c.args.file.now _ _ refl (omega (arith, long w)) in
     put_behind 18 (head w ++ bytes16 (length c.args.stops.now)) (drop 18 c.args.file.now) c.write_count.new.file c.write_entries.new.out refl counted
     ∙ append_assoc (head w) (bytes16 (length c.args.stops.now)) _
     ∙ ap₂ (λ (n : ℕ) (l : List ℕ). head w ++ (bytes16 n ++ l)) (sym (given_count c.args.p.n c.args.stops.now c.args.numbers.now)) c.write_entries.ensures

@@ -1,6 +1,6 @@
 -- `open_checked` meets its contract: 7 for the part's length, then what opening its numbers gives.
 use mathlib.Core.Path.{◌≡◌, refl}
-use borrow.Author.Rules.{rules}
+use native.Mathlib.Omega.{arith}
 use lib.ListN.{length}
 use Rattle.refusals.proofs.Checks.{gives_same}
 use Rattle.parameters.specs.Sets.{set_of}
@@ -11,18 +11,20 @@ use Rattle.entry_opening.specs.Calls.{opening_entry}
 use Rattle.entry_opening.proofs.Promises.{length_refused, opens_as_its_array}
 use Rattle.entry_opening.proofs.opened.open_checked.Goals as goal
 
-pub returns-then-part-n : goal.returns-then-part-n
-returns-then-part-n c = gives_same c.args.message.now (length_refused (set_of c.args.p) c.args.f.now c.args.f2.now c.args.part.now (length c.args.message.now) c.requires c.if-part-n.true) (refl, refl)
+pub returns-then-part-p : goal.returns-then-part-p
+returns-then-part-p c = gives_same c.args.message.now (length_refused (set_of c.args.p) c.args.f.now c.args.f2.now c.args.part.now (length c.args.message.now) c.requires c.if-part-p.true) (refl, refl)
 
-pub returns-then-n-le128 : goal.returns-then-n-le128
-returns-then-n-le128 c =
-    let as_array : opening_entry (set_of c.args.p) c.args.f.now c.args.f2.now c.args.part.now (length c.args.message.now) ≡ opening (set_of c.args.p) c.args.f.now c.args.f2.now (numbers_from c.args.part.now) (length c.args.message.now) = opens_as_its_array (set_of c.args.p) c.args.f.now c.args.f2.now c.args.part.now (length c.args.message.now) c.if-part-n.false in
-    gives_same _ as_array c.open_few.ensures
+pub returns-then-p-le128 : goal.returns-then-p-le128
+returns-then-p-le128 c =
+    let as_array : opening_entry (set_of c.args.p) c.args.f.now c.args.f2.now c.args.part.now (length c.args.message.now) ≡ opening (set_of c.args.p) c.args.f.now c.args.f2.now (numbers_from c.args.part.now) (length c.args.message.now) = opens_as_its_array (set_of c.args.p) c.args.f.now c.args.f2.now c.args.part.now (length c.args.message.now) c.if-part-p.false in
+    gives_same _ as_array c.open_in.ensures
 
-pub open_many-requires : goal.open_many-requires
-open_many-requires c = ((accepted_parameters _ c.requires).N_small, c.if-part-n.false)
+pub open_in-requires-2-clause-room : goal.open_in-requires-2-clause-room
+open_in-requires-2-clause-room c =
+    let small = (accepted_parameters (set_of c.args.p) c.requires).N_small in
+    (omega arith, omega arith)
 
 pub returns : goal.returns
 returns c =
-    let as_array : opening_entry (set_of c.args.p) c.args.f.now c.args.f2.now c.args.part.now (length c.args.message.now) ≡ opening (set_of c.args.p) c.args.f.now c.args.f2.now (numbers_from c.args.part.now) (length c.args.message.now) = opens_as_its_array (set_of c.args.p) c.args.f.now c.args.f2.now c.args.part.now (length c.args.message.now) c.if-part-n.false in
-    gives_same _ as_array c.open_many.ensures
+    let as_array : opening_entry (set_of c.args.p) c.args.f.now c.args.f2.now c.args.part.now (length c.args.message.now) ≡ opening (set_of c.args.p) c.args.f.now c.args.f2.now (numbers_from c.args.part.now) (length c.args.message.now) = opens_as_its_array (set_of c.args.p) c.args.f.now c.args.f2.now c.args.part.now (length c.args.message.now) c.if-part-p.false in
+    gives_same _ as_array c.open_in-2.ensures

@@ -1,15 +1,13 @@
 -- `open_part` meets its contract: the checks and the message are those of the numbers that were read.
-use mathlib.Core.Path.{◌≡◌, sym, ◌∙◌, ap}
+use mathlib.Core.Path.{◌≡◌, sym, ap}
 use mathlib.Core.List.{List, ◌++◌}
 use Prim.Native.Nat.{ℕ}
 use native.Mathlib.Omega.{arith}
-use borrow.Author.Rules.{rules}
 use lib.IntN.{ℤ}
 use lib.ListN.{length}
 use Rattle.refusals.proofs.Errors.{gives_passed_on}
 use Rattle.refusals.specs.Outcomes.{Check, Outcome, Passes}
-use Rattle.refusals.specs.Numbers.{answered}
-use Rattle.refusals.proofs.Checks.{gives_done, gives_refused, gives_same}
+use Rattle.refusals.proofs.Checks.{gives_done, gives_same}
 use Rattle.parameters.specs.Sets.{set_of, parameter_checks}
 use Rattle.polynomials.specs.Polynomials.{coefficient}
 use Rattle.packing.specs.Messages.{unpacked}
