@@ -5,24 +5,28 @@
 #![tactic(auto)]
 
 ghost use Rattle.std.specs.Prelude.{◌≡◌, length};
-ghost use Rattle.refusals.specs.Outcomes.{outcome, number, Gives, Passes};
+ghost use Rattle.refusals.specs.Outcomes.{outcome, number, Gives};
 ghost use Rattle.refusals.specs.Numbers.{answered};
-ghost use Rattle.parameters.specs.Sets.{set_of, parameter_checks};
+ghost use Rattle.parameters.specs.Sets.{set_of};
 ghost use Rattle.bundles.specs.Calls.{writing_bundle, given_checks};
 
 mod entries;
 mod lengths;
 mod writing;
 
-use parameters::Parameters;
+use parameters::{CheckedParameters, Parameters};
 use refusals::Refusal;
 
 // 7, 25 over all stops, then each entry's 12.
-fn given_refusal(p: Parameters, stops: &[u16], numbers: &[i32], room: usize) -> Result<(), Refusal>
-    requires { Passes (parameter_checks (set_of p)) }
-    ensures { answered result ≡ outcome (given_checks (set_of p) stops.now numbers.now room) tt }
+fn given_refusal(
+    p: CheckedParameters,
+    stops: &[u16],
+    numbers: &[i32],
+    room: usize,
+) -> Result<(), Refusal>
+    ensures { answered result ≡ outcome (given_checks (set_of p.parameters) stops.now numbers.now room) tt }
 {
-    if !lengths::lengths_right(p.n, stops.len(), numbers.len(), room) {
+    if !lengths::lengths_right(p.parameters.n, stops.len(), numbers.len(), room) {
         return Err(Refusal::WrongLength);
     }
     if stop_sets::any_twice(stops) {
@@ -40,7 +44,7 @@ pub fn write_bundle(
 ) -> Result<(), Refusal>
     ensures { Gives (writing_bundle (set_of p) stops.now numbers.now (length file.old)) (number (answered result)) file.old file.new }
 {
-    p.check()?;
+    let p = p.checked()?;
     given_refusal(p, stops, numbers, file.len())?;
     writing::write_file(p, stops, numbers, file);
     Ok(())

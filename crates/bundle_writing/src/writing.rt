@@ -1,8 +1,7 @@
 // A bundle is written: the head, the count, then the entries.
 ghost use Rattle.std.specs.Prelude.{◌≡◌, ◌+◌, ◌*◌, ◌<◌, ◌≤◌, length};
 ghost use Rattle.std.proofs.lemmas.List.Edits.{sets};
-ghost use Rattle.refusals.specs.Outcomes.{Passes};
-ghost use Rattle.parameters.specs.Sets.{set_of, parameter_checks};
+ghost use Rattle.parameters.specs.Sets.{set_of};
 ghost use Rattle.arrays.specs.Arrays.{Small};
 ghost use Rattle.heads.specs.Heads.{head_length, bytes16};
 ghost use Rattle.bundles.specs.Bundles.{longest_bundle, stop_length, entry_length, entry_start, entry_bytes, entries_bytes, bundle_of, entry_is};
@@ -11,7 +10,7 @@ ghost use Rattle.bundles.specs.Calls.{entries_given};
 use bundles::{FIRST_ENTRY, STOP_BYTES, entry_length};
 use head_writing::write_head;
 use heads::{HEAD_BYTES, kinds};
-use parameters::Parameters;
+use parameters::CheckedParameters;
 use refusals::Refusal;
 use stored_numbers::write_numbers;
 
@@ -51,13 +50,13 @@ fn write_count(count: usize, file: &mut [u8])
     file[HEAD_BYTES..FIRST_ENTRY].copy_from_slice(&(count as u16).to_be_bytes());
 }
 
-pub(crate) fn write_file(p: Parameters, stops: &[u16], numbers: &[i32], file: &mut [u8])
-    requires passes { Passes (parameter_checks (set_of p)) × (length numbers.now ≡ 2 * p.n * length stops.now) }
-    requires file_len { (length file.old ≡ entry_start p.n (length stops.now)) × (length file.old ≤ longest_bundle) × Small numbers.now }
-    ensures { file.new ≡ bundle_of (set_of p) (entries_given p.n stops.now numbers.now) }
+pub(crate) fn write_file(p: CheckedParameters, stops: &[u16], numbers: &[i32], file: &mut [u8])
+    requires numbers_len { length numbers.now ≡ 2 * p.parameters.n * length stops.now }
+    requires file_len { (length file.old ≡ entry_start p.parameters.n (length stops.now)) × (length file.old ≤ longest_bundle) × Small numbers.now }
+    ensures { file.new ≡ bundle_of (set_of p.parameters) (entries_given p.parameters.n stops.now numbers.now) }
 {
     // Nothing is refused: the kind is known, and the parameters and the length have passed.
-    let _ = write_head(kinds::BUNDLE, p, file);
+    let _ = write_head(kinds::BUNDLE, p.parameters, file);
     write_count(stops.len(), file);
-    write_entries(p.n, stops, numbers, &mut file[FIRST_ENTRY..]);
+    write_entries(p.parameters.n, stops, numbers, &mut file[FIRST_ENTRY..]);
 }

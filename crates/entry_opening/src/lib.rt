@@ -26,6 +26,6 @@ pub fn open_entry(
     ensures { Gives (opening_entry (set_of p) f.now f2.now part.now (length message.old))
         (number (answered result)) message.old message.new }
 {
-    p.check()?;
+    let p = p.checked()?;
     opened::open_checked(p, f, f2, part, message)
 }

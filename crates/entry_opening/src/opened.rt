@@ -11,7 +11,7 @@ ghost use Rattle.etru.specs.Calls.{opening, opening_checks};
 ghost use Rattle.files.specs.Files.{numbers_from};
 ghost use Rattle.entry_opening.specs.Calls.{opening_entry};
 
-use parameters::Parameters;
+use parameters::{CheckedParameters, Parameters};
 use refusals::Refusal;
 use stored_numbers::read_numbers;
 
@@ -83,21 +83,20 @@ fn open_in<const ROOM: usize>(
 
 // 7 if the part has not 4N bytes. Where N is small, 2 KiB are cleared, and not the 16 KiB that a large one needs.
 pub(crate) fn open_checked(
-    p: Parameters,
+    p: CheckedParameters,
     f: &[i32],
     f2: &[i32],
     part: &[u8],
     message: &mut [u8],
 ) -> Result<(), Refusal>
-    requires { Passes (parameter_checks (set_of p)) }
-    ensures { Gives (opening_entry (set_of p) f.now f2.now part.now (length message.old))
+    ensures { Gives (opening_entry (set_of p.parameters) f.now f2.now part.now (length message.old))
         (number (answered result)) message.old message.new }
 {
-    if part.len() != 4 * (p.n as usize) {
+    if part.len() != 4 * (p.parameters.n as usize) {
         return Err(Refusal::WrongLength);
     }
-    if p.n <= 128 {
-        return open_in::<256>(p, f, f2, part, message);
+    if p.parameters.n <= 128 {
+        return open_in::<256>(p.parameters, f, f2, part, message);
     }
-    open_in::<2048>(p, f, f2, part, message)
+    open_in::<2048>(p.parameters, f, f2, part, message)
 }

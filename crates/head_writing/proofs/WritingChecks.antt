@@ -1,4 +1,4 @@
--- What the checks of writing a head leave, where all are passed: a known kind, accepted parameters and room.
+-- What the checks of writing a head leave, where all are passed: a known kind and room.
 use mathlib.Core.Path.{◌≡◌, ◌∙◌, ap}
 use mathlib.Core.List.{List, [], ◌++◌}
 use Prim.Native.Nat.{ℕ, ◌≤◌}
@@ -12,12 +12,12 @@ use Rattle.heads.specs.Kinds.{known_kind}
 use Rattle.heads.specs.Heads.{head_length, head_bytes}
 use Rattle.head_writing.specs.Calls.{head_writing_checks, writing_head}
 
-pub writing_passed : (kind : ℕ) (p : ParameterSet) (room : ℕ) → Passes (head_writing_checks kind p room) → T (known_kind kind) × Passes (parameter_checks p) × (head_length ≤ room)
+pub writing_passed : (kind : ℕ) (p : ParameterSet) (room : ℕ) → Passes (head_writing_checks kind p room) → T (known_kind kind) × (head_length ≤ room)
 unfolding head_writing_checks
 writing_passed kind p room e =
     let k19 = done_holds 19 (known_kind kind) _ _ _ e in
     let k = done_all (parameter_checks p) _ _ _ k19.1 in
-    (k19.0, k.0, ltb-false room head_length (done_passed 7 (ltb room head_length) _ _ _ k.1).0)
+    (k19.0, ltb-false room head_length (done_passed 7 (ltb room head_length) _ _ _ k.1).0)
 
 -- and then the head is written
 pub head_written : (kind : ℕ) (p : ParameterSet) (old : List ℕ) {n : ℕ} {new : List ℕ} → T (known_kind kind) → Passes (parameter_checks p) → head_length ≤ length old → Gives (writing_head kind p old) n old new → new ≡ head_bytes kind p ++ drop head_length old

@@ -17,7 +17,7 @@ use refusals::Refusal;
 pub fn write_head(kind: u32, p: Parameters, file: &mut [u8]) -> Result<(), Refusal>
     ensures { Gives (writing_head kind (set_of p) file.old) (number (answered result)) file.old file.new }
 {
-    writing::writing_refusal(kind, p, file.len())?;
+    let p = writing::writing_refusal(kind, p, file.len())?;
     writing::write_bytes(kind, p, file);
     Ok(())
 }

@@ -23,7 +23,7 @@ pub fn spread_places(p: Parameters, places: &[PlacedUnit], phi: &mut [i32]) -> R
     ensures { Gives (spreading (set_of p) places.now (length phi.old))
         (number (answered result)) phi.old phi.new }
 {
-    p.check()?;
-    Refusal::WrongLength.when(!checked::has_lengths(p, places.len(), phi.len()))?;
+    let p = p.checked()?;
+    Refusal::WrongLength.when(!checked::has_lengths(p.parameters, places.len(), phi.len()))?;
     checked::spread_into(p, places, phi)
 }

@@ -5,8 +5,7 @@
 #![tactic(auto)]
 
 ghost use Rattle.std.specs.Prelude.{◌≡◌, length};
-ghost use Rattle.refusals.specs.Outcomes.{Passes};
-ghost use Rattle.parameters.specs.Sets.{set_of, parameter_checks};
+ghost use Rattle.parameters.specs.Sets.{set_of};
 ghost use Rattle.packing.specs.Messages.{message_bytes};
 ghost use Rattle.opened_arrays.specs.Answers.{GivesMessage};
 ghost use Rattle.short_messages.specs.ShortMessages.{longest_short};
@@ -14,7 +13,7 @@ ghost use Rattle.short_scheme.specs.Calls.{short_opening};
 
 mod reading;
 
-use parameters::Parameters;
+use parameters::{CheckedParameters, Parameters};
 use refusals::Refusal;
 
 // The 2N bits go to lent bytes, and are read as a short message.
@@ -36,19 +35,18 @@ fn open_bits(
 
 // With room for the bits of every N.
 fn open_checked(
-    p: Parameters,
+    p: CheckedParameters,
     f: &[i32],
     f2: &[i32],
     e: &[i32],
     message: &mut [u8],
 ) -> Result<usize, Refusal>
-    requires { Passes (parameter_checks (set_of p)) × (length message.old ≡ longest_short p.n) }
-    ensures { GivesMessage (short_opening (set_of p) f.now f2.now e.now (length message.old)) result message.old message.new }
+    requires { length message.old ≡ longest_short p.parameters.n }
+    ensures { GivesMessage (short_opening (set_of p.parameters) f.now f2.now e.now (length message.old)) result message.old message.new }
 {
-    let n = p.n;
-    let k = packing::message_bytes(n);
+    let k = packing::message_bytes(p.parameters.n);
     let mut bits = short_messages::message_room();
-    open_bits(p, f, f2, e, &mut bits[..k], message)
+    open_bits(p.parameters, f, f2, e, &mut bits[..k], message)
 }
 
 // Opens the sealed array e with the private key f and F2. The short message goes to the front of message, which has as many bytes as the longest one.
@@ -61,8 +59,8 @@ pub fn open_short(
 ) -> Result<usize, Refusal>
     ensures { GivesMessage (short_opening (set_of p) f.now f2.now e.now (length message.old)) result message.old message.new }
 {
-    p.check()?;
-    let right = message.len() == short_messages::longest_short(p.n);
+    let p = p.checked()?;
+    let right = message.len() == short_messages::longest_short(p.parameters.n);
     Refusal::WrongLength.when(!right)?;
     open_checked(p, f, f2, e, message)
 }

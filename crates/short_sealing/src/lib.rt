@@ -5,14 +5,14 @@
 #![tactic(auto)]
 
 ghost use Rattle.std.specs.Prelude.{◌≡◌, ◌++◌, ◌+◌, ◌*◌, ◌≤◌, length};
-ghost use Rattle.refusals.specs.Outcomes.{number, outcome, Gives, Passes};
+ghost use Rattle.refusals.specs.Outcomes.{number, outcome, Gives};
 ghost use Rattle.refusals.specs.Numbers.{answered};
 ghost use Rattle.parameters.specs.Sets.{set_of, parameter_checks};
 ghost use Rattle.packing.specs.Messages.{message_bytes};
 ghost use Rattle.short_scheme.specs.Calls.{short_sealing_checks, short_sealing};
 
 use array_sets::{ArraySet, check_array};
-use parameters::Parameters;
+use parameters::{CheckedParameters, Parameters};
 use refusals::Refusal;
 use short_messages::too_long;
 
@@ -52,23 +52,22 @@ fn seal_bits(
 
 // A message that is too long meets the first refusal due, 26 at the latest. The bits of another are sealed, with room for those of every N.
 fn seal_checked(
-    p: Parameters,
+    p: CheckedParameters,
     h: &[i32],
     phi: &[i32],
     message: &[u8],
     e: &mut [i32],
 ) -> Result<(), Refusal>
-    requires { Passes (parameter_checks (set_of p)) }
-    ensures { Gives (short_sealing (set_of p) h.now phi.now message.now (length e.old))
+    ensures { Gives (short_sealing (set_of p.parameters) h.now phi.now message.now (length e.old))
         (number (answered result)) e.old e.new }
 {
-    let n = p.n;
+    let n = p.parameters.n;
     if too_long(n, message.len()) {
-        return short_sealing_refusal(p, h, phi, message.len(), e.len());
+        return short_sealing_refusal(p.parameters, h, phi, message.len(), e.len());
     }
     let k = packing::message_bytes(n);
     let mut bits = short_messages::message_room();
-    seal_bits(p, h, phi, message, &mut bits[..k], e)
+    seal_bits(p.parameters, h, phi, message, &mut bits[..k], e)
 }
 
 // Seals a short message with the public key h and the ephemeral φ, to e.
@@ -82,6 +81,6 @@ pub fn seal_short(
     ensures { Gives (short_sealing (set_of p) h.now phi.now message.now (length e.old))
         (number (answered result)) e.old e.new }
 {
-    p.check()?;
+    let p = p.checked()?;
     seal_checked(p, h, phi, message, e)
 }

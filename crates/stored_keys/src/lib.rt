@@ -4,12 +4,12 @@
 #![tactic(auto)]
 
 ghost use Rattle.std.specs.Prelude.{◌≡◌, ◌*◌, ◌≤◌, length};
-ghost use Rattle.refusals.specs.Outcomes.{number, Passes};
+ghost use Rattle.refusals.specs.Outcomes.{number};
 ghost use Rattle.refusals.specs.Numbers.{answered};
-ghost use Rattle.parameters.specs.Sets.{set_of, parameter_checks};
+ghost use Rattle.parameters.specs.Sets.{set_of};
 ghost use Rattle.stored_keys.specs.Keys.{stored_key_check, key_check_in};
 
-use parameters::Parameters;
+use parameters::{CheckedParameters, Parameters};
 use refusals::Refusal;
 
 // The key check with Fq and g one after another. The public key that it forms goes to a lent array.
@@ -45,23 +45,21 @@ fn key_refusal_in(p: Parameters, numbers: &[i32], h: &mut [i32]) -> Result<(), R
 }
 
 // What is checked is all that is wanted: the public key is formed beside it, in 8 KiB of stack.
-fn accepted_key_refusal(p: Parameters, numbers: &[i32]) -> Result<(), Refusal>
-    requires { Passes (parameter_checks (set_of p)) }
-    ensures { number (answered result) ≡ number (stored_key_check (set_of p) numbers.now) }
+fn accepted_key_refusal(p: CheckedParameters, numbers: &[i32]) -> Result<(), Refusal>
+    ensures { number (answered result) ≡ number (stored_key_check (set_of p.parameters) numbers.now) }
 {
-    let n = p.n;
-    let k = 2 * (n as usize);
+    let k = 2 * (p.parameters.n as usize);
     if numbers.len() < 4 * k {
         return Err(Refusal::WrongLength);
     }
     let mut h = arrays::zeros();
-    key_refusal_in(p, numbers, &mut h[..k])
+    key_refusal_in(p.parameters, numbers, &mut h[..k])
 }
 
 // The first refusal of the key check. Numbers beyond the four arrays play no part.
 pub fn key_refusal(p: Parameters, numbers: &[i32]) -> Result<(), Refusal>
     ensures { number (answered result) ≡ number (stored_key_check (set_of p) numbers.now) }
 {
-    p.check()?;
+    let p = p.checked()?;
     accepted_key_refusal(p, numbers)
 }

@@ -10,8 +10,8 @@ use Rattle.bundle_writing.proofs.given_refusal.Goals as goal
 use Rattle.bundle_writing.proofs.given_refusal.Goals.{Start}
 
 -- the stops of the entries are those that were given
-of_entries : (s : Start) → any_twice s.args.stops.now ≡ any_twice (stops_of (entries_given s.args.p.n s.args.stops.now s.args.numbers.now))
-of_entries s = ap any_twice (sym (given_stops s.args.p.n s.args.stops.now s.args.numbers.now))
+of_entries : (s : Start) → any_twice s.args.stops.now ≡ any_twice (stops_of (entries_given s.args.p.parameters.n s.args.stops.now s.args.numbers.now))
+of_entries s = ap any_twice (sym (given_stops s.args.p.parameters.n s.args.stops.now s.args.numbers.now))
 
 pub returns-then-not-lengths_right : goal.returns-then-not-lengths_right
 returns-then-not-lengths_right c = sym (call_refused 7 _ _ c.lengths_right.ensures (ap not c.if-not-lengths_right.true))

@@ -5,7 +5,6 @@ use mathlib.Core.Path.{◌≡◌, refl, sym, ◌∙◌, ap, subst}
 use mathlib.Core.Bool.{true}
 use mathlib.Core.List.{List, [], ◌++◌}
 use Prim.Native.Nat.{ℕ, ◌+◌, ◌*◌}
-use borrow.Author.Rules.{rules}
 use borrow.Author.Tests.{ltb-false}
 use lib.Dec.{T}
 use lib.IntN.{ℤ}
@@ -47,19 +46,19 @@ module _ (p : ParameterSet) (h φ : List ℤ) (short : List ℕ) (room : ℕ) (l
       go (refused n) e = subst (λ (k : ℕ). Gives (outcome checks value_of) k old old) (sym (ap number (a ∙ e))) (gives_refused checks value_of old n e)
 
 pub returns-then-too_long : goal.returns-then-too_long
-returns-then-too_long c = refused_as (set_of c.args.p) c.args.h.now c.args.phi.now c.args.message.now (length c.args.e.now) (sym c.too_long.ensures ∙ c.if-too_long.true) c.short_sealing_refusal.result c.args.e.now c.short_sealing_refusal.ensures
+returns-then-too_long c = refused_as (set_of c.args.p.parameters) c.args.h.now c.args.phi.now c.args.message.now (length c.args.e.now) (sym c.too_long.ensures ∙ c.if-too_long.true) c.short_sealing_refusal.result c.args.e.now c.short_sealing_refusal.ensures
 
 pub slice_bounds-bits-end : goal.slice_bounds-bits-end
 slice_bounds-bits-end c =
-    let lent : Lent c.args.p.n c.message_bytes-k.result c.message_room-bits.result = lent_room (accepted_parameters (set_of c.args.p) c.requires).N_small c.message_bytes-k.ensures c.message_room-bits.ensures in
+    let lent : Lent c.args.p.parameters.n c.message_bytes-k.result c.message_room-bits.result = lent_room (accepted_parameters (set_of c.args.p.parameters) c.args.p.passes).N_small c.message_bytes-k.ensures c.message_room-bits.ensures in
     lent.enough
 
 pub slice_bounds-seal_bits-end : goal.slice_bounds-seal_bits-end
 slice_bounds-seal_bits-end c =
-    let lent : Lent c.args.p.n c.message_bytes-k.result c.message_room-bits.result = lent_room (accepted_parameters (set_of c.args.p) c.requires).N_small c.message_bytes-k.ensures c.message_room-bits.ensures in
+    let lent : Lent c.args.p.parameters.n c.message_bytes-k.result c.message_room-bits.result = lent_room (accepted_parameters (set_of c.args.p.parameters) c.args.p.passes).N_small c.message_bytes-k.ensures c.message_room-bits.ensures in
     sym lent.long
 
 pub seal_bits-requires : goal.seal_bits-requires
 seal_bits-requires c =
-    let lent : Lent c.args.p.n c.message_bytes-k.result c.message_room-bits.result = lent_room (accepted_parameters (set_of c.args.p) c.requires).N_small c.message_bytes-k.ensures c.message_room-bits.ensures in
-    (ltb-false (2 * c.args.p.n) (8 * length c.args.message.now + 1) (sym c.too_long.ensures ∙ c.if-too_long.false), lent.for_message)
+    let lent : Lent c.args.p.parameters.n c.message_bytes-k.result c.message_room-bits.result = lent_room (accepted_parameters (set_of c.args.p.parameters) c.args.p.passes).N_small c.message_bytes-k.ensures c.message_room-bits.ensures in
+    (ltb-false (2 * c.args.p.parameters.n) (8 * length c.args.message.now + 1) (sym c.too_long.ensures ∙ c.if-too_long.false), lent.for_message)

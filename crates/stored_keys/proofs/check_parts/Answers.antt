@@ -1,12 +1,10 @@
 -- `check_parts` meets its contract.
-use mathlib.Core.Path.{◌≡◌, refl, sym, ◌∙◌}
+use mathlib.Core.Path.{◌≡◌, refl, ◌∙◌}
 use mathlib.Core.List.{List}
 use Prim.Native.Nat.{ℕ, ◌-◌, ◌*◌}
 use native.Mathlib.Omega.{arith}
-use borrow.Author.Rules.{rules}
 use lib.IntN.{ℤ}
 use lib.ListN.{length, take, drop}
-use lib.Seq.{length-take-le}
 use Rattle.refusals.specs.Outcomes.{number}
 use Rattle.parameters.specs.Sets.{ParameterSet, set_of}
 use Rattle.etru.specs.Calls.{key_check}

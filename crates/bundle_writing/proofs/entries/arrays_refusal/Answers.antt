@@ -21,27 +21,27 @@ use Rattle.bundle_writing.proofs.entries.arrays_refusal.Goals as goal
 use Rattle.bundle_writing.proofs.entries.arrays_refusal.Goals.{Start}
 
 abbrev entries : (s : Start) → List Entry
-entries s = entries_given s.args.p.n s.args.stops.now s.args.numbers.now
+entries s = entries_given s.args.p.parameters.n s.args.stops.now s.args.numbers.now
 
 inside : (s : Start) → (k : ℕ) → k < length s.args.stops.now → k < length (entries s)
-inside s k h = omega (arith, given_count s.args.p.n s.args.stops.now s.args.numbers.now)
+inside s k h = omega (arith, given_count s.args.p.parameters.n s.args.stops.now s.args.numbers.now)
 
-full : (s : Start) → (k : ℕ) → k < length s.args.stops.now → length (array_of (entries s) k) ≡ 2 * s.args.p.n
+full : (s : Start) → (k : ℕ) → k < length s.args.stops.now → length (array_of (entries s) k) ≡ 2 * s.args.p.parameters.n
 full s k h =
-    let w = 2 * s.args.p.n in
-    ap (λ (x : List ℤ). length x) (given_array s.args.p.n s.args.stops.now s.args.numbers.now k h)
-    ∙ length-take-le w (drop (w * k) s.args.numbers.now) (omega (arith, length-drop (w * k) s.args.numbers.now, s.requires.1, mul-suc w k, mul-le-mul_left w h))
+    let w = 2 * s.args.p.parameters.n in
+    ap (λ (x : List ℤ). length x) (given_array s.args.p.parameters.n s.args.stops.now s.args.numbers.now k h)
+    ∙ length-take-le w (drop (w * k) s.args.numbers.now) (omega (arith, length-drop (w * k) s.args.numbers.now, s.requires, mul-suc w k, mul-le-mul_left w h))
 
 pub returns-in_err-array_refusal : goal.returns-in_err-array_refusal
 returns-in_err-array_refusal c =
-    let checked : outcome (own (set_of c.args.p) ReducedModuloQ (array_of (entries (goal.at.returns-in_err-array_refusal c).Start) c.loop-k.k) ∷ []) (tt {0}) ≡ answered c.array_refusal.result = sym (own_check (set_of c.args.p) ReducedModuloQ (array_of (entries (goal.at.returns-in_err-array_refusal c).Start) c.loop-k.k) c.requires.0 (full (goal.at.returns-in_err-array_refusal c).Start c.loop-k.k c.loop-k-test.true)) ∙ sym c.array_refusal.ensures in
-    passed_on _ _ c.from_residual.ensures.1 ∙ sym (c.loop-k.invariant ∙ entry_refused (set_of c.args.p) (entries (goal.at.returns-in_err-array_refusal c).Start) c.loop-k.k _ (inside (goal.at.returns-in_err-array_refusal c).Start c.loop-k.k c.loop-k-test.true) (checked ∙ ap answered c.in_err-array_refusal.was))
+    let checked : outcome (own (set_of c.args.p.parameters) ReducedModuloQ (array_of (entries (goal.at.returns-in_err-array_refusal c).Start) c.loop-k.k) ∷ []) (tt {0}) ≡ answered c.array_refusal.result = sym (own_check (set_of c.args.p.parameters) ReducedModuloQ (array_of (entries (goal.at.returns-in_err-array_refusal c).Start) c.loop-k.k) c.args.p.passes (full (goal.at.returns-in_err-array_refusal c).Start c.loop-k.k c.loop-k-test.true)) ∙ sym c.array_refusal.ensures in
+    passed_on _ _ c.from_residual.ensures.1 ∙ sym (c.loop-k.invariant ∙ entry_refused (set_of c.args.p.parameters) (entries (goal.at.returns-in_err-array_refusal c).Start) c.loop-k.k _ (inside (goal.at.returns-in_err-array_refusal c).Start c.loop-k.k c.loop-k-test.true) (checked ∙ ap answered c.in_err-array_refusal.was))
 
 pub loop-k-preserved : goal.loop-k-preserved
 loop-k-preserved c =
-    let checked : outcome (own (set_of c.args.p) ReducedModuloQ (array_of (entries (goal.at.loop-k-preserved c).Start) c.loop-k.k) ∷ []) (tt {0}) ≡ answered c.array_refusal.result = sym (own_check (set_of c.args.p) ReducedModuloQ (array_of (entries (goal.at.loop-k-preserved c).Start) c.loop-k.k) c.requires.0 (full (goal.at.loop-k-preserved c).Start c.loop-k.k c.loop-k-test.true)) ∙ sym c.array_refusal.ensures in
+    let checked : outcome (own (set_of c.args.p.parameters) ReducedModuloQ (array_of (entries (goal.at.loop-k-preserved c).Start) c.loop-k.k) ∷ []) (tt {0}) ≡ answered c.array_refusal.result = sym (own_check (set_of c.args.p.parameters) ReducedModuloQ (array_of (entries (goal.at.loop-k-preserved c).Start) c.loop-k.k) c.args.p.passes (full (goal.at.loop-k-preserved c).Start c.loop-k.k c.loop-k-test.true)) ∙ sym c.array_refusal.ensures in
     let h = c.loop-k-test.true in
-    c.loop-k.invariant ∙ entry_passed (set_of c.args.p) (entries (goal.at.loop-k-preserved c).Start) c.loop-k.k (inside (goal.at.loop-k-preserved c).Start c.loop-k.k h) (checked ∙ ap answered c.in_ok-array_refusal.was)
+    c.loop-k.invariant ∙ entry_passed (set_of c.args.p.parameters) (entries (goal.at.loop-k-preserved c).Start) c.loop-k.k (inside (goal.at.loop-k-preserved c).Start c.loop-k.k h) (checked ∙ ap answered c.in_ok-array_refusal.was)
 
 pub returns : goal.returns
-returns c = sym (c.loop-k.invariant ∙ all_entries_passed (set_of c.args.p) (entries (goal.at.returns c).Start) c.loop-k.k (omega (arith, given_count c.args.p.n c.args.stops.now c.args.numbers.now)))
+returns c = sym (c.loop-k.invariant ∙ all_entries_passed (set_of c.args.p.parameters) (entries (goal.at.returns c).Start) c.loop-k.k (omega (arith, given_count c.args.p.parameters.n c.args.stops.now c.args.numbers.now)))

@@ -7,4 +7,4 @@ use Rattle.bundles.proofs.EntryChecks.{from_entry}
 use Rattle.bundle_writing.proofs.entries.arrays_refusal.Given as goal
 
 abbrev pub invariant-loop-k : goal.invariant-loop-k
-invariant-loop-k l = outcome (arrays_checks (set_of l.p) (entries_given l.p.n l.stops l.numbers)) (tt {0}) ≡ outcome (from_entry (set_of l.p) (entries_given l.p.n l.stops l.numbers) l.k) (tt {0})
+invariant-loop-k l = outcome (arrays_checks (set_of l.p.parameters) (entries_given l.p.parameters.n l.stops l.numbers)) (tt {0}) ≡ outcome (from_entry (set_of l.p.parameters) (entries_given l.p.parameters.n l.stops l.numbers) l.k) (tt {0})

@@ -27,14 +27,14 @@ stored_behind head old high low h l =
 
 -- the file is as long as its entries need
 long : (w : After-write_head) → 18 + 2 * length w.args.stops.now ≤ length w.args.file.now
-long w = omega (arith, w.requires.file_len.0, entries_long w.args.p.n (length w.args.stops.now))
+long w = omega (arith, w.requires.file_len.0, entries_long w.args.p.parameters.n (length w.args.stops.now))
 
 abbrev head : After-write_head → List ℕ
-head w = head_bytes bundle_kind (set_of w.args.p)
+head w = head_bytes bundle_kind (set_of w.args.p.parameters)
 
 headed : (w : After-write_head) → w.write_head.new.file ≡ head w ++ drop head_length w.args.file.now
 unfolding arrays_of
-headed w = head_written bundle_kind (set_of w.args.p) w.args.file.now tt w.requires.passes.0 (omega (arith, long w)) w.write_head.ensures
+headed w = head_written bundle_kind (set_of w.args.p.parameters) w.args.file.now tt w.args.p.passes (omega (arith, long w)) w.write_head.ensures
 
 headed_length : (w : After-write_head) → length w.write_head.new.file ≡ length w.args.file.now
 unfolding head_bytes bytes16
@@ -65,7 +65,7 @@ write_entries-requires c =
     let rest : length (take (length file - 18) (drop 18 file)) ≡ length c.args.file.now - 18 =
     ap (λ (l : List ℕ). length l) (rest_taken 18 file) ∙ length-drop 18 file ∙ omega (arith, counted_length w c.write_count.ensures) in
     record {
-      numbers_len = (c.requires.passes.1, rest ∙ omega (arith, c.requires.file_len.0, start_is c.args.p.n (length c.args.stops.now)));
+      numbers_len = (c.requires.numbers_len, rest ∙ omega (arith, c.requires.file_len.0, start_is c.args.p.parameters.n (length c.args.stops.now)));
       out_len_bound = (omega (arith, rest, c.requires.file_len.1), c.requires.file_len.2);
     }
 
@@ -77,4 +77,4 @@ returns c =
     c.write_count.ensures ∙ ap (λ (l : List ℕ). sets l 16 (bytes16 (length c.args.stops.now))) (headed w) ∙ stored_behind (head w) c.args.file.now _ _ refl (omega (arith, long w)) in
     put_behind 18 (head w ++ bytes16 (length c.args.stops.now)) (drop 18 c.args.file.now) c.write_count.new.file c.write_entries.new.out refl counted
     ∙ append_assoc (head w) (bytes16 (length c.args.stops.now)) _
-    ∙ ap₂ (λ (n : ℕ) (l : List ℕ). head w ++ (bytes16 n ++ l)) (sym (given_count c.args.p.n c.args.stops.now c.args.numbers.now)) c.write_entries.ensures
+    ∙ ap₂ (λ (n : ℕ) (l : List ℕ). head w ++ (bytes16 n ++ l)) (sym (given_count c.args.p.parameters.n c.args.stops.now c.args.numbers.now)) c.write_entries.ensures

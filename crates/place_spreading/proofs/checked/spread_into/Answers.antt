@@ -19,17 +19,17 @@ use Rattle.place_spreading.proofs.checked.spread_into.Goals as goal
 use Rattle.place_spreading.proofs.checked.spread_into.Goals.{Start}
 
 abbrev checks : Start → List Check
-checks s = place_checks (set_of s.args.p) s.args.places.now
+checks s = place_checks (set_of s.args.p.parameters) s.args.places.now
 
 abbrev value_of : Start → List ℤ
-value_of s = array s.args.p.n (spread s.args.places.now)
+value_of s = array s.args.p.parameters.n (spread s.args.places.now)
 
-small : (s : Start) → s.args.p.n ≤ 1024
-small s = (accepted_parameters (set_of s.args.p) s.requires.0).N_small
+small : (s : Start) → s.args.p.parameters.n ≤ 1024
+small s = (accepted_parameters (set_of s.args.p.parameters) s.args.p.passes).N_small
 
 -- the part of the zeros that is lent
-part : (s : Start) → length (take (2 * s.args.p.n) (replicate 2048 (pos 0))) ≡ 2 * s.args.p.n
-part s = zeros_part s.args.p.n _ (small s) refl
+part : (s : Start) → length (take (2 * s.args.p.parameters.n) (replicate 2048 (pos 0))) ≡ 2 * s.args.p.parameters.n
+part s = zeros_part s.args.p.parameters.n _ (small s) refl
 
 pub slice_bounds-laid-end : goal.slice_bounds-laid-end
 slice_bounds-laid-end c = omega (arith, small (goal.at.slice_bounds-laid-end c).Start)
@@ -37,9 +37,9 @@ slice_bounds-laid-end c = omega (arith, small (goal.at.slice_bounds-laid-end c).
 pub slice_bounds-x-end : goal.slice_bounds-x-end
 slice_bounds-x-end c = sym (part (goal.at.slice_bounds-x-end c).Start)
 
-pub lay_checked-requires-clause-zeros : goal.lay_checked-requires-clause-zeros
-lay_checked-requires-clause-zeros c =
-    (part (goal.at.lay_checked-requires-clause-zeros c).Start, part_zeros (2 * c.args.p.n) _ refl)
+pub lay_checked-requires : goal.lay_checked-requires
+lay_checked-requires c =
+    (part (goal.at.lay_checked-requires c).Start, part_zeros (2 * c.args.p.parameters.n) _ refl)
 
 pub copy_from_slice-requires : goal.copy_from_slice-requires
 copy_from_slice-requires c = omega (arith, part (goal.at.copy_from_slice-requires c).Start)

@@ -17,7 +17,7 @@ pub loop-i-preserved : goal.loop-i-preserved
 loop-i-preserved c =
     let inside : 2 * c.loop-i.i + 1 < length c.loop-i.e = omega (arith, c.loop-i.invariant.long) in
     let r = c.sealed_at-r in
-    stored_next c.loop-i.invariant refl inside (pair_read {w = w32} {a = r.result.a} {b = r.result.b} (search rules) (search rules) ∙ r.ensures ∙ ap (λ (z : ℤ[ω]). mod_q (set_of c.args.p).q (z +ω z +ω packed c.args.message.now c.loop-i.i)) (c.loop-i.invariant.old c.loop-i.i (omega arith)))
+    stored_next c.loop-i.invariant refl inside (pair_read {w = w32} {a = r.result.a} {b = r.result.b} (search rules) (search rules) ∙ r.ensures ∙ ap (λ (z : ℤ[ω]). mod_q (set_of c.args.p.parameters).q (z +ω z +ω packed c.args.message.now c.loop-i.i)) (c.loop-i.invariant.old c.loop-i.i (omega arith)))
 
 pub returns : goal.returns
-returns c = stored_all c.args.p.n c.loop-i.invariant c.requires.1 (omega arith)
+returns c = stored_all c.args.p.parameters.n c.loop-i.invariant c.requires (omega arith)

@@ -15,4 +15,4 @@ abbrev pub at : ℤ[ω] → List ℤ → List ℕ → Polynomial
 at q e message i = mod_q q (coefficient e i +ω coefficient e i +ω packed message i)
 
 abbrev pub invariant-loop-i : goal.invariant-loop-i
-invariant-loop-i l = Changed coefficient (at (set_of l.p).q l.initial.e l.message) l.initial.e l.e l.i
+invariant-loop-i l = Changed coefficient (at (set_of l.p.parameters).q l.initial.e l.message) l.initial.e l.e l.i

@@ -33,12 +33,15 @@ product s = convolution s.args.p.n (coefficient s.args.phi.now) (coefficient s.a
 ready : (s : Start) → Sealing (P s) s.args.h.now s.args.phi.now s.args.message.now (length s.args.e.now)
 ready s = sealing_passed (P s) s.args.h.now s.args.phi.now s.args.message.now (length s.args.e.now) s.requires
 
+pub invariant_of-add_message : goal.invariant_of-add_message
+invariant_of-add_message c = record { passes = (ready (goal.at.invariant_of-add_message c).Start).accepted.checks }
+
 pub add_message-requires : goal.add_message-requires
 unfolding sealed
 add_message-requires c =
     let product_is : c.multiply_units.new.out ≡ array c.args.p.n (product (goal.at.add_message-requires c).Start) = let k = ready (goal.at.add_message-requires c).Start in
     product-formed (P (goal.at.add_message-requires c).Start) k.accepted c.args.e.now k.φ_units k.h_ready k.room_is (array c.args.p.n (product (goal.at.add_message-requires c).Start)) c.multiply_units.ensures in
-    ((ready (goal.at.add_message-requires c).Start).accepted.checks, ap length product_is ∙ array_length c.args.p.n (product (goal.at.add_message-requires c).Start))
+    ap length product_is ∙ array_length c.args.p.n (product (goal.at.add_message-requires c).Start)
 
 pub returns : goal.returns
 unfolding sealed

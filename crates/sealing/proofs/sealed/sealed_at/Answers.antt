@@ -37,14 +37,14 @@ part = twice ⊕ var 1
 pub returns : goal.returns
 unfolding ◌+ω◌ coefficient
 returns c =
-    let modulus_read : let p = c.args.p in value (to_z w32 (of_z w32 p.c)) (to_z w32 (of_z w32 p.d)) ≡ (set_of p).q = pair_read {w = w32} (search rules) (search rules) in
+    let modulus_read : let p = c.args.p.parameters in value (to_z w32 (of_z w32 p.c)) (to_z w32 (of_z w32 p.d)) ≡ (set_of p).q = pair_read {w = w32} (search rules) (search rules) in
     let a_fits : SFits w32 c.pair_of-m.result.a = search rules in
     let ρ_a : List Leaf = let p = c.at-pa in given p.result (2 ^ 31) p.ensures.1 ∷ widened c.from.result c.pair_of-m.result.a a_fits c.from.ensures ∷ [] in
     let b_fits : SFits w32 c.pair_of-m.result.b = search rules in
     let ρ_b : List Leaf = let p = c.at-pb in given p.result (2 ^ 31) p.ensures.1 ∷ widened c.from-2.result c.pair_of-m.result.b b_fits c.from-2.ensures ∷ [] in
     let sum : ℤ[ω] = value (eval (meanings ρ_a) part) (eval (meanings ρ_b) part) in
-    let P = set_of c.args.p in
-    let a = accepted_parameters P c.requires.0 in
+    let P = set_of c.args.p.parameters in
+    let a = accepted_parameters P c.args.p.passes in
     let p = ap₂ value c.at-pa.ensures.0 c.at-pb.ensures.0 in
     c.remainder_q.ensures
     ∙ ap₂ (λ (q x : ℤ[ω]). written (reduce_q q x) 𝟘) modulus_read (ap₂ value (exact w64 ρ_a part tt) (exact w64 ρ_b part tt))

@@ -4,7 +4,6 @@ use mathlib.Core.Path.{◌≡◌, refl, sym, ◌∙◌, ap}
 use mathlib.Core.List.{List, [], ◌∷◌}
 use Prim.Native.Nat.{ℕ, ◌*◌}
 use native.Mathlib.Omega.{arith}
-use borrow.Author.Rules.{rules}
 use Rattle.refusals.specs.Outcomes.{Outcome, outcome, ◌if◌}
 use Rattle.refusals.proofs.Checks.{refused_by}
 use Rattle.packing.specs.Messages.{bit_of}
