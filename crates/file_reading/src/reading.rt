@@ -22,7 +22,7 @@ fn reading_refusal(kind: u32, p: Parameters, file: &[u8], room: usize) -> Result
         return Err(Refusal::WrongLength);
     }
     let width = 2 * (n as usize);
-    let mut x = arrays::zeros();
+    let mut x = [0i32; 2048];
     stored_refusal(kind, p, &file[HEAD_BYTES..], &mut x[..width])
 }
 

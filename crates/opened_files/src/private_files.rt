@@ -45,7 +45,7 @@ pub(crate) fn open_private(
 {
     let n = p.n;
     let end = first_end(n, input.len());
-    let mut numbers = files::four_arrays();
+    let mut numbers = [0i32; 8192];
     let all = 8192;
     open_private_in(
         p,

@@ -13,11 +13,6 @@ use lines::LINE_BYTES;
 use opened_files::open_input;
 use refusals::Refusal;
 
-// Room for the longest message.
-fn largest() -> [u8; 256] {
-    [0u8; 256]
-}
-
 // The line of what was opened, to the front of line; answers its length.
 fn write_opened(opened: Result<usize, Refusal>, message: &[u8], line: &mut [u8]) -> usize
     requires { (length message.now ≡ 256) × (length line.old ≡ 515) }
@@ -46,7 +41,7 @@ fn write_line(input: &[u8], line: &mut [u8]) -> usize
     requires { length line.old ≡ 515 }
     ensures { (result ≡ length (opening_line input.now)) × (line.new ≡ opening_line input.now ++ drop result line.old) }
 {
-    let mut message = largest();
+    let mut message = [0u8; 256];
     write_line_in(input, &mut message, line)
 }
 

@@ -45,7 +45,7 @@ fn open_checked(
     ensures { GivesMessage (short_opening (set_of p.parameters) f.now f2.now e.now (length message.old)) result message.old message.new }
 {
     let k = packing::message_bytes(p.parameters.n);
-    let mut bits = short_messages::message_room();
+    let mut bits = [0u8; 256];
     open_bits(p.parameters, f, f2, e, &mut bits[..k], message)
 }
 

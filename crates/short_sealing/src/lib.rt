@@ -66,7 +66,7 @@ fn seal_checked(
         return short_sealing_refusal(p.parameters, h, phi, message.len(), e.len());
     }
     let k = packing::message_bytes(n);
-    let mut bits = short_messages::message_room();
+    let mut bits = [0u8; 256];
     seal_bits(p.parameters, h, phi, message, &mut bits[..k], e)
 }
 

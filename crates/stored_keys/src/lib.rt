@@ -23,8 +23,7 @@ fn check_parts(
     requires { length rest.now ≡ 4 * p.n }
     ensures { number (answered result) ≡ number (key_check_in (set_of p) f.now f2.now rest.now (length h.old)) }
 {
-    let n = p.n;
-    let fq_end = 2 * (n as usize);
+    let fq_end = 2 * (p.n as usize);
     let g_end = 2 * fq_end;
     let fq = &rest[..fq_end];
     let g = &rest[fq_end..g_end];
@@ -35,8 +34,7 @@ fn key_refusal_in(p: Parameters, numbers: &[i32], h: &mut [i32]) -> Result<(), R
     requires { (8 * p.n ≤ length numbers.now) × (length h.old ≡ 2 * p.n) }
     ensures { number (answered result) ≡ number (stored_key_check (set_of p) numbers.now) }
 {
-    let n = p.n;
-    let f_end = 2 * (n as usize);
+    let f_end = 2 * (p.n as usize);
     let f2_end = 2 * f_end;
     let g_end = 4 * f_end;
     let f = &numbers[..f_end];
@@ -52,7 +50,7 @@ fn accepted_key_refusal(p: CheckedParameters, numbers: &[i32]) -> Result<(), Ref
     if numbers.len() < 4 * k {
         return Err(Refusal::WrongLength);
     }
-    let mut h = arrays::zeros();
+    let mut h = [0i32; 2048];
     key_refusal_in(p.parameters, numbers, &mut h[..k])
 }
 

@@ -8,7 +8,7 @@ use Prim.Native.Nat.{ℕ, ◌+◌, ◌*◌}
 use borrow.Author.Tests.{ltb-false}
 use lib.Dec.{T}
 use lib.IntN.{ℤ}
-use lib.ListN.{length, take}
+use lib.ListN.{length, take, replicate}
 use Rattle.refusals.specs.Outcomes.{Check, Outcome, done, refused, outcome, number, Gives}
 use Rattle.refusals.specs.Numbers.{answered}
 use Rattle.refusals.proofs.Checks.{done_all, done_passed, gives_refused}
@@ -50,15 +50,15 @@ returns-then-too_long c = refused_as (set_of c.args.p.parameters) c.args.h.now c
 
 pub slice_bounds-bits-end : goal.slice_bounds-bits-end
 slice_bounds-bits-end c =
-    let lent : Lent c.args.p.parameters.n c.message_bytes-k.result c.message_room-bits.result = lent_room (accepted_parameters (set_of c.args.p.parameters) c.args.p.passes).N_small c.message_bytes-k.ensures c.message_room-bits.ensures in
+    let lent : Lent c.args.p.parameters.n c.message_bytes-k.result (replicate 256 0) = lent_room (accepted_parameters (set_of c.args.p.parameters) c.args.p.passes).N_small c.message_bytes-k.ensures refl in
     lent.enough
 
 pub slice_bounds-seal_bits-end : goal.slice_bounds-seal_bits-end
 slice_bounds-seal_bits-end c =
-    let lent : Lent c.args.p.parameters.n c.message_bytes-k.result c.message_room-bits.result = lent_room (accepted_parameters (set_of c.args.p.parameters) c.args.p.passes).N_small c.message_bytes-k.ensures c.message_room-bits.ensures in
+    let lent : Lent c.args.p.parameters.n c.message_bytes-k.result (replicate 256 0) = lent_room (accepted_parameters (set_of c.args.p.parameters) c.args.p.passes).N_small c.message_bytes-k.ensures refl in
     sym lent.long
 
 pub seal_bits-requires : goal.seal_bits-requires
 seal_bits-requires c =
-    let lent : Lent c.args.p.parameters.n c.message_bytes-k.result c.message_room-bits.result = lent_room (accepted_parameters (set_of c.args.p.parameters) c.args.p.passes).N_small c.message_bytes-k.ensures c.message_room-bits.ensures in
+    let lent : Lent c.args.p.parameters.n c.message_bytes-k.result (replicate 256 0) = lent_room (accepted_parameters (set_of c.args.p.parameters) c.args.p.passes).N_small c.message_bytes-k.ensures refl in
     (ltb-false (2 * c.args.p.parameters.n) (8 * length c.args.message.now + 1) (sym c.too_long.ensures ∙ c.if-too_long.false), lent.for_message)

