@@ -10,7 +10,8 @@ ghost use Rattle.bundles.specs.Calls.{entries_given};
 
 use bundles::{FIRST_ENTRY, STOP_BYTES, entry_length};
 use head_writing::write_head;
-use heads::{HEAD_BYTES, kinds};
+use heads::HEAD_BYTES;
+use heads::kinds::Kind;
 use parameters::Parameters;
 use refusals::Refusal;
 use stored_numbers::write_numbers;
@@ -58,7 +59,7 @@ pub(crate) fn write_file(p: Parameters, stops: &[u16], numbers: &[i32], file: &m
 {
     let n = p.n;
     // Nothing is refused: the kind is known, and the parameters and the length have passed.
-    let _ = write_head(kinds::BUNDLE, p, file);
+    let _ = write_head(Kind::Bundle as u32, p, file);
     write_count(stops.len(), file);
     write_entries(n, stops, numbers, &mut file[FIRST_ENTRY..]);
 }
