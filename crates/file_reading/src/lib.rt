@@ -13,6 +13,7 @@ ghost use Rattle.files.specs.Calls.{reading};
 mod contents;
 mod reading;
 
+use heads::kinds::Kind;
 use refusals::Refusal;
 
 // The arrays of a file of the wanted kind, one after another in stored order, to numbers.
@@ -20,5 +21,7 @@ pub fn read(kind: u32, file: &[u8], numbers: &mut [i32]) -> Result<(), Refusal>
     ensures { Gives (reading kind file.now (length numbers.old)) (number (answered result)) numbers.old numbers.new }
 {
     let p = head_reading::read_head(kind, file)?;
+    // A head is read of a kind alone.
+    let kind = Kind::try_from(kind)?;
     reading::read_content(kind, p, file, numbers)
 }
