@@ -14,6 +14,7 @@ mod contents;
 mod reading;
 
 use heads::kinds::Kind;
+use parameters::CheckedParameters;
 use refusals::Refusal;
 
 // The arrays of a file of the wanted kind, one after another in stored order, to numbers.
@@ -23,5 +24,6 @@ pub fn read(kind: u32, file: &[u8], numbers: &mut [i32]) -> Result<(), Refusal>
     let p = head_reading::read_head(kind, file)?;
     // A head is read of a kind alone.
     let kind = Kind::try_from(kind)?;
-    reading::read_content(kind, p, file, numbers)
+    // The parameters of a head that is read have passed.
+    reading::read_content(kind, CheckedParameters { parameters: p }, file, numbers)
 }

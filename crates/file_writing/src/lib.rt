@@ -23,6 +23,6 @@ pub fn write(kind: u32, p: Parameters, numbers: &[i32], file: &mut [u8]) -> Resu
     ensures { Gives (writing kind (set_of p) numbers.now (length file.old)) (number (answered result)) file.old file.new }
 {
     let kind = Kind::try_from(kind)?;
-    p.check()?;
+    let p = p.checked()?;
     writing::write_content(kind, p, numbers, file)
 }

@@ -44,8 +44,8 @@ head_read s p e =
     let m = done_parts (parameter_checks (P s)) (P s) p k.1 in
     record { at_head = k.0; accepted = m.0; same = m.1 }
 
-pub read_content-requires : goal.read_content-requires
-read_content-requires c = let r = head_read (goal.at.read_content-requires c).Start (set_of c.in_ok-p.p) (sym c.read_head.ensures ∙ ap made c.in_ok-p.was) in subst (λ (p : ParameterSet). Passes (parameter_checks p)) r.same r.accepted
+pub invariant_of-read_content : goal.invariant_of-read_content
+invariant_of-read_content c = let r = head_read (goal.at.invariant_of-read_content c).Start (set_of c.in_ok-p.p) (sym c.read_head.ensures ∙ ap made c.in_ok-p.was) in record { passes = subst (λ (p : ParameterSet). Passes (parameter_checks p)) r.same r.accepted }
 
 pub returns : goal.returns
 unfolding reading reading_checks

@@ -17,12 +17,12 @@ pub loop-k-init : goal.loop-k-init
 loop-k-init c =
     record {
       lent = omega arith;
-      judged = none_judged (number_of_kind c.args.kind) (set_of c.args.p) (numbers_from c.args.bytes.now) _ c.arrays-set-items.ensures (long _ _ _ c.requires.1);
+      judged = none_judged (number_of_kind c.args.kind) (set_of c.args.p.parameters) (numbers_from c.args.bytes.now) _ c.arrays-set-items.ensures (long _ _ _ c.requires.0);
     }
 
 pub stored_array_refusal-requires : goal.stored_array_refusal-requires
 stored_array_refusal-requires c =
-    let ends = array_ends (number_of_kind c.args.kind) (set_of c.args.p) (numbers_from c.args.bytes.now) _ c.arrays-set-items.ensures (long _ _ _ c.requires.1) c.loop-k.k c.loop-k-test.true in
+    let ends = array_ends (number_of_kind c.args.kind) (set_of c.args.p.parameters) (numbers_from c.args.bytes.now) _ c.arrays-set-items.ensures (long _ _ _ c.requires.0) c.loop-k.k c.loop-k-test.true in
     (omega (arith, numbers_length c.args.bytes.now), omega arith)
 
 pub loop-k-preserved : goal.loop-k-preserved
@@ -30,7 +30,7 @@ loop-k-preserved c =
     record {
       lent = omega arith;
       judged =
-          one_more_judged (number_of_kind c.args.kind) (set_of c.args.p) (numbers_from c.args.bytes.now) _ c.arrays-set-items.ensures (long _ _ _ c.requires.1) c.loop-k.k c.loop-k-test.true c.requires.0 _ c.loop-k.invariant.judged
+          one_more_judged (number_of_kind c.args.kind) (set_of c.args.p.parameters) (numbers_from c.args.bytes.now) _ c.arrays-set-items.ensures (long _ _ _ c.requires.0) c.loop-k.k c.loop-k-test.true c.args.p.passes _ c.loop-k.invariant.judged
           (sym c.stored_array_refusal.ensures ∙ ap answered c.in_ok-stored_array_refusal.was);
     }
 
@@ -38,8 +38,8 @@ pub returns-in_err-stored_array_refusal : goal.returns-in_err-stored_array_refus
 returns-in_err-stored_array_refusal c =
     passed_on _ _ c.from_residual.ensures.1
     ∙ sym
-    (one_refused (number_of_kind c.args.kind) (set_of c.args.p) (numbers_from c.args.bytes.now) _ c.arrays-set-items.ensures (long _ _ _ c.requires.1) c.loop-k.k c.loop-k-test.true c.requires.0 _ c.loop-k.invariant.judged _
+    (one_refused (number_of_kind c.args.kind) (set_of c.args.p.parameters) (numbers_from c.args.bytes.now) _ c.arrays-set-items.ensures (long _ _ _ c.requires.0) c.loop-k.k c.loop-k-test.true c.args.p.passes _ c.loop-k.invariant.judged _
     (sym c.stored_array_refusal.ensures ∙ ap answered c.in_err-stored_array_refusal.was))
 
 pub returns : goal.returns
-returns c = sym (all_judged (number_of_kind c.args.kind) (set_of c.args.p) (numbers_from c.args.bytes.now) _ c.arrays-set-items.ensures (long _ _ _ c.requires.1) c.loop-k.k (omega arith) c.loop-k.invariant.judged)
+returns c = sym (all_judged (number_of_kind c.args.kind) (set_of c.args.p.parameters) (numbers_from c.args.bytes.now) _ c.arrays-set-items.ensures (long _ _ _ c.requires.0) c.loop-k.k (omega arith) c.loop-k.invariant.judged)

@@ -10,5 +10,5 @@ use Rattle.file_reading.proofs.contents.stored_refusal.Given as goal
 abbrev pub invariant-loop-k : goal.invariant-loop-k
 invariant-loop-k l = record {
   lent : length l.x ≡ length l.initial.x;
-  judged : outcome (set_checks (set_of l.p) l.set-items (numbers_from l.bytes)) (tt {0}) ≡ outcome (from_array (set_of l.p) l.set-items (numbers_from l.bytes) l.k) (tt {0});
+  judged : outcome (set_checks (set_of l.p.parameters) l.set-items (numbers_from l.bytes)) (tt {0}) ≡ outcome (from_array (set_of l.p.parameters) l.set-items (numbers_from l.bytes) l.k) (tt {0});
 }

@@ -19,17 +19,17 @@ use Rattle.file_writing.proofs.writing.write_content.Goals as goal
 use Rattle.file_writing.proofs.writing.write_content.Goals.{Start}
 
 abbrev value_of : Start → List ℕ
-value_of s = file_of (number_of_kind s.args.kind) (set_of s.args.p) s.args.numbers.now
+value_of s = file_of (number_of_kind s.args.kind) (set_of s.args.p.parameters) s.args.numbers.now
 
 abbrev checks : Start → List Check
-checks s = given_checks (number_of_kind s.args.kind) (set_of s.args.p) s.args.numbers.now (length s.args.file.now)
+checks s = given_checks (number_of_kind s.args.kind) (set_of s.args.p.parameters) s.args.numbers.now (length s.args.file.now)
 
 pub write_file-requires : goal.write_file-requires
 write_file-requires c =
     let refusal_is : answered c.writing_refusal.result ≡ outcome (checks (goal.at.write_file-requires c).Start) (tt {0}) = c.writing_refusal.ensures in
     let all_passed : Passes (checks (goal.at.write_file-requires c).Start) = sym refusal_is ∙ ap answered c.in_ok-writing_refusal.was in
-    let P = set_of c.args.p in
-    let k = contents_passed (number_of_kind c.args.kind) P c.args.numbers.now (length c.args.numbers.now) (length c.args.file.now) all_passed in record { t = c.requires; file_len = (omega (arith, k.file_is, k.numbers_are, file_bytes_lem (number_of_kind c.args.kind) c.args.p.n), contents_small (number_of_kind c.args.kind) P c.args.numbers.now c.requires k.numbers_are k.sets) }
+    let P = set_of c.args.p.parameters in
+    let k = contents_passed (number_of_kind c.args.kind) P c.args.numbers.now (length c.args.numbers.now) (length c.args.file.now) all_passed in (omega (arith, k.file_is, k.numbers_are, file_bytes_lem (number_of_kind c.args.kind) c.args.p.parameters.n), contents_small (number_of_kind c.args.kind) P c.args.numbers.now c.args.p.passes k.numbers_are k.sets)
 
 pub returns : goal.returns
 returns c =

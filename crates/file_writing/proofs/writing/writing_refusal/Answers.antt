@@ -7,7 +7,7 @@ use Rattle.files.proofs.Passed.{lengths_passed, lengths_refused}
 use Rattle.file_writing.proofs.writing.writing_refusal.Goals as goal
 
 pub returns-then-not-lengths_right : goal.returns-then-not-lengths_right
-returns-then-not-lengths_right c = sym (lengths_refused (number_of_kind c.args.kind) (set_of c.args.p) _ (length c.args.numbers.now) c.args.room _ (rw c.number.ensures at c.lengths_right.ensures) (c.if-not-lengths_right.true))
+returns-then-not-lengths_right c = sym (lengths_refused (number_of_kind c.args.kind) (set_of c.args.p.parameters) _ (length c.args.numbers.now) c.args.room _ (rw c.number.ensures at c.lengths_right.ensures) (c.if-not-lengths_right.true))
 
 pub returns : goal.returns
-returns c = c.sets_refusal.ensures ∙ sym (lengths_passed (number_of_kind c.args.kind) (set_of c.args.p) _ (length c.args.numbers.now) c.args.room _ (rw c.number.ensures at c.lengths_right.ensures) (c.if-not-lengths_right.false))
+returns c = c.sets_refusal.ensures ∙ sym (lengths_passed (number_of_kind c.args.kind) (set_of c.args.p.parameters) _ (length c.args.numbers.now) c.args.room _ (rw c.number.ensures at c.lengths_right.ensures) (c.if-not-lengths_right.false))
