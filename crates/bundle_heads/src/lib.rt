@@ -10,8 +10,9 @@ ghost use Rattle.bundles.specs.Bundles.{count_of};
 ghost use Rattle.bundles.specs.Calls.{reading_parameters};
 
 use bundles::right_length;
+use heads::HEAD_BYTES;
 use heads::bytes::unsigned_at;
-use heads::{HEAD_BYTES, kinds};
+use heads::kinds::Kind;
 use parameters::Parameters;
 use refusals::Refusal;
 
@@ -33,7 +34,7 @@ pub fn entry_count(file: &[u8]) -> u32
 pub fn read_bundle_head(file: &[u8]) -> Result<Parameters, Refusal>
     ensures { made result ≡ reading_parameters file.now }
 {
-    let p = head_reading::read_head(kinds::BUNDLE, file)?;
+    let p = head_reading::read_head(Kind::Bundle as u32, file)?;
     // 7 for the bundle's own length.
     if !right_length(p.n, entry_count(file) as usize, file.len()) {
         return Err(Refusal::WrongLength);

@@ -9,7 +9,8 @@ ghost use Rattle.bundles.specs.Calls.{entries_given};
 
 use bundles::{FIRST_ENTRY, STOP_BYTES, entry_length};
 use head_writing::write_head;
-use heads::{HEAD_BYTES, kinds};
+use heads::HEAD_BYTES;
+use heads::kinds::Kind;
 use parameters::CheckedParameters;
 use refusals::Refusal;
 use stored_numbers::write_numbers;
@@ -56,7 +57,7 @@ pub(crate) fn write_file(p: CheckedParameters, stops: &[u16], numbers: &[i32], f
     ensures { file.new ≡ bundle_of (set_of p.parameters) (entries_given p.parameters.n stops.now numbers.now) }
 {
     // Nothing is refused: the kind is known, and the parameters and the length have passed.
-    let _ = write_head(kinds::BUNDLE, p.parameters, file);
+    let _ = write_head(Kind::Bundle as u32, p.parameters, file);
     write_count(stops.len(), file);
     write_entries(p.parameters.n, stops, numbers, &mut file[FIRST_ENTRY..]);
 }

@@ -13,6 +13,8 @@ ghost use Rattle.files.specs.Calls.{reading};
 mod contents;
 mod reading;
 
+use heads::kinds::Kind;
+use parameters::CheckedParameters;
 use refusals::Refusal;
 
 // The arrays of a file of the wanted kind, one after another in stored order, to numbers.
@@ -20,5 +22,8 @@ pub fn read(kind: u32, file: &[u8], numbers: &mut [i32]) -> Result<(), Refusal>
     ensures { Gives (reading kind file.now (length numbers.old)) (number (answered result)) numbers.old numbers.new }
 {
     let p = head_reading::read_head(kind, file)?;
-    reading::read_content(kind, p, file, numbers)
+    // A head is read of a kind alone.
+    let kind = Kind::try_from(kind)?;
+    // The parameters of a head that is read have passed.
+    reading::read_content(kind, CheckedParameters { parameters: p }, file, numbers)
 }

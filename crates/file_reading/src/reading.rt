@@ -1,39 +1,43 @@
 // What follows a head, read from a file.
 ghost use Rattle.std.specs.Prelude.{◌≡◌, length};
-ghost use Rattle.refusals.specs.Outcomes.{outcome, number, Gives, Passes};
+ghost use Rattle.refusals.specs.Outcomes.{outcome, number, Gives};
 ghost use Rattle.refusals.specs.Numbers.{answered};
-ghost use Rattle.parameters.specs.Sets.{set_of, parameter_checks};
+ghost use Rattle.parameters.specs.Sets.{set_of};
+ghost use Rattle.heads.specs.Kinds.{number_of_kind};
 ghost use Rattle.files.specs.Calls.{stored_checks, reading_content};
 
 use crate::contents::stored_refusal;
 use files::lengths_right;
 use heads::HEAD_BYTES;
-use parameters::Parameters;
+use heads::kinds::Kind;
+use parameters::CheckedParameters;
 use refusals::Refusal;
 use stored_numbers::read_numbers;
 
 // The arrays are judged one at a time in 8 KiB of stack, since a refusal leaves the lent output as it came.
-fn reading_refusal(kind: u32, p: Parameters, file: &[u8], room: usize) -> Result<(), Refusal>
-    requires { Passes (parameter_checks (set_of p)) }
-    ensures { answered result ≡ outcome (stored_checks kind (set_of p) file.now room) tt }
+fn reading_refusal(
+    kind: Kind,
+    p: CheckedParameters,
+    file: &[u8],
+    room: usize,
+) -> Result<(), Refusal>
+    ensures { answered result ≡ outcome (stored_checks (number_of_kind kind) (set_of p.parameters) file.now room) tt }
 {
-    let n = p.n;
-    if !lengths_right(kind, n, room, file.len()) {
+    if !lengths_right(kind.number(), p.parameters.n, room, file.len()) {
         return Err(Refusal::WrongLength);
     }
-    let width = 2 * (n as usize);
+    let width = 2 * (p.parameters.n as usize);
     let mut x = [0i32; 2048];
     stored_refusal(kind, p, &file[HEAD_BYTES..], &mut x[..width])
 }
 
 pub(crate) fn read_content(
-    kind: u32,
-    p: Parameters,
+    kind: Kind,
+    p: CheckedParameters,
     file: &[u8],
     numbers: &mut [i32],
 ) -> Result<(), Refusal>
-    requires { Passes (parameter_checks (set_of p)) }
-    ensures { Gives (reading_content kind (set_of p) file.now (length numbers.old)) (number (answered result)) numbers.old numbers.new }
+    ensures { Gives (reading_content (number_of_kind kind) (set_of p.parameters) file.now (length numbers.old)) (number (answered result)) numbers.old numbers.new }
 {
     reading_refusal(kind, p, file, numbers.len())?;
     read_numbers(&file[HEAD_BYTES..], numbers);

@@ -14,7 +14,7 @@ ghost use Rattle.files.specs.Calls.{writing};
 mod contents;
 mod writing;
 
-use heads::kinds;
+use heads::kinds::Kind;
 use parameters::Parameters;
 use refusals::Refusal;
 
@@ -22,9 +22,7 @@ use refusals::Refusal;
 pub fn write(kind: u32, p: Parameters, numbers: &[i32], file: &mut [u8]) -> Result<(), Refusal>
     ensures { Gives (writing kind (set_of p) numbers.now (length file.old)) (number (answered result)) file.old file.new }
 {
-    if !kinds::known_kind(kind) {
-        return Err(Refusal::KindNotWanted);
-    }
-    p.check()?;
+    let kind = Kind::try_from(kind)?;
+    let p = p.checked()?;
     writing::write_content(kind, p, numbers, file)
 }

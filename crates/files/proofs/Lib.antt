@@ -1,6 +1,7 @@
 pub mod Bounds
 pub mod Lists
 pub mod SetChecks
+pub mod JudgedArrays
 pub mod Passed
 pub mod SmallArrays
 pub mod HeadTrips

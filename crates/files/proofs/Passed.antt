@@ -1,5 +1,5 @@
 -- What the checks of a file leave, where all are passed.
-use mathlib.Core.Path.{◌≡◌, sym, ◌∙◌, subst}
+use mathlib.Core.Path.{◌≡◌, sym, ◌∙◌, ap, subst}
 use mathlib.Core.Bool.{Bool, true, false, not, ◌&&◌}
 use mathlib.Core.List.{List, ◌++◌}
 use Prim.Native.Nat.{ℕ, ◌+◌, ◌*◌}
@@ -7,11 +7,13 @@ use native.Mathlib.Omega.{arith}
 use lib.Dec.{T, eqb}
 use lib.IntN.{ℤ}
 use Rattle.refusals.specs.Outcomes.{refused, outcome, Passes}
-use Rattle.refusals.proofs.Checks.{done_holds, holds_passed, fails_refused, call_passed, call_refused}
+use Rattle.refusals.proofs.Checks.{done_holds, holds_passed, fails_refused, refused_by, passed}
 use mir.Facts.{and_yes}
 use Rattle.integers.proofs.Tests.{are_equal_2}
 use Rattle.parameters.specs.Sets.{ParameterSet, parameter_checks}
-use Rattle.heads.specs.Kinds.{arrays_of, made_of_arrays, known_kind}
+use Rattle.heads.specs.declared.kinds.Kind.{Kind}
+use Rattle.heads.specs.Kinds.{arrays_of, made_of_arrays, known_kind, number_of_kind}
+use Rattle.heads.proofs.ArraysOfKinds.{kind_known}
 use Rattle.heads.specs.Heads.{head_length}
 use Rattle.files.specs.Files.{file_numbers, file_bytes, file_of}
 use Rattle.files.specs.Calls.{set_checks, right_lengths, content_checks, given_checks, writing_checks, writing}
@@ -34,15 +36,15 @@ module _ (kind : ℕ) (p : ParameterSet) (l : List ℤ) (numbers file : ℕ) (ri
   unfolding content_checks
   lengths_passed e = holds_passed 7 (right_lengths kind p.N numbers file) _ tt (subst T (sym e ∙ tested) tt)
 
--- writing tests the kind first, as `known_kind` answers it
-module _ (kind : ℕ) (p : ParameterSet) (l : List ℤ) (room : ℕ) {known : Bool} (tested : known ≡ known_kind kind) where
-  pub kind_refused : not known ≡ true → writing kind p l room ≡ refused 19
+-- writing tests the kind first
+module _ (p : ParameterSet) (l : List ℤ) (room : ℕ) where
+  pub kind_refused : (number : ℕ) → known_kind number ≡ false → writing number p l room ≡ refused 19
   unfolding writing writing_checks
-  kind_refused e = call_refused 19 _ _ tested e
+  kind_refused number e = refused_by 19 _ _ (ap not e)
 
-  pub kind_passed : not known ≡ false → writing kind p l room ≡ outcome (parameter_checks p ++ given_checks kind p l room) (file_of kind p l)
+  pub kind_passed : {number : ℕ} (kind : Kind) → number_of_kind kind ≡ number → writing number p l room ≡ outcome (parameter_checks p ++ given_checks (number_of_kind kind) p l room) (file_of (number_of_kind kind) p l)
   unfolding writing writing_checks
-  kind_passed e = call_passed 19 _ _ tested e
+  kind_passed kind e = rw (← e) (passed 19 _ _ (ap not (kind_known kind)))
 
 pub record Contents (kind : ℕ) (p : ParameterSet) (l : List ℤ) (numbers file : ℕ) : Type 0 where
   pub file_is : file ≡ file_bytes kind p.N

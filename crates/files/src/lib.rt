@@ -3,24 +3,33 @@
 
 #![tactic(auto)]
 
-ghost use Rattle.std.specs.Prelude.{◌≡◌, pos, replicate};
+ghost use Rattle.std.specs.Prelude.{◌≡◌, pos, length, replicate};
+ghost use Rattle.heads.specs.Kinds.{arrays_of};
 ghost use Rattle.files.specs.Files.{file_numbers, file_bytes};
 ghost use Rattle.files.specs.Calls.{right_lengths};
 
-use heads::{HEAD_BYTES, kinds};
+use heads::HEAD_BYTES;
+use heads::kinds::Kind;
+
+// How many arrays a file of this kind has: none where it is not made of arrays alone, or where the number is no kind.
+fn array_count(kind: u32) -> usize
+    ensures { result ≡ length (arrays_of kind) }
+{
+    Kind::try_from(kind).map_or(0, |kind| kind.arrays().len())
+}
 
 // The lengths of a file of this kind, in bytes and in numbers of its arrays; of a kind that is not made of arrays alone, those of its head.
 pub fn file_bytes(kind: u32, n: u32) -> usize
     ensures { result ≡ file_bytes kind n }
 {
-    let count = kinds::array_count(kind);
+    let count = array_count(kind);
     HEAD_BYTES + 4 * (n as usize) * count
 }
 
 pub fn file_numbers(kind: u32, n: u32) -> usize
     ensures { result ≡ file_numbers kind n }
 {
-    let count = kinds::array_count(kind);
+    let count = array_count(kind);
     2 * (n as usize) * count
 }
 
@@ -28,10 +37,5 @@ pub fn file_numbers(kind: u32, n: u32) -> usize
 pub fn lengths_right(kind: u32, n: u32, numbers: usize, file: usize) -> bool
     ensures { result ≡ right_lengths kind n numbers file }
 {
-    if kinds::made_of_arrays(kind) {
-        if file == file_bytes(kind, n) {
-            return numbers == file_numbers(kind, n);
-        }
-    }
-    false
+    0 < array_count(kind) && file == file_bytes(kind, n) && numbers == file_numbers(kind, n)
 }

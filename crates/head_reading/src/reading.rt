@@ -9,7 +9,7 @@ ghost use Rattle.head_reading.specs.Calls.{marked, version_one, head_checks};
 
 use crate::bytes::signed_at;
 use heads::bytes::unsigned_at;
-use heads::kinds::known_kind;
+use heads::kinds::Kind;
 use heads::{HEAD_BYTES, VERSION};
 use parameters::Parameters;
 use refusals::Refusal;
@@ -32,7 +32,7 @@ fn kind_wanted(kind: u32, file: &[u8]) -> bool
     requires { head_length ≤ length file.now }
     ensures { result ≡ (known_kind kind && eqb (get_or file.now 5 0) kind) }
 {
-    known_kind(kind) && u32::from(file[5]) == kind
+    Kind::try_from(kind).is_ok() && u32::from(file[5]) == kind
 }
 
 pub(crate) fn head_refusal(kind: u32, file: &[u8]) -> Result<(), Refusal>

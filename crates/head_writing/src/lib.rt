@@ -10,6 +10,7 @@ ghost use Rattle.head_writing.specs.Calls.{writing_head};
 
 mod writing;
 
+use heads::kinds::Kind;
 use parameters::Parameters;
 use refusals::Refusal;
 
@@ -17,7 +18,8 @@ use refusals::Refusal;
 pub fn write_head(kind: u32, p: Parameters, file: &mut [u8]) -> Result<(), Refusal>
     ensures { Gives (writing_head kind (set_of p) file.old) (number (answered result)) file.old file.new }
 {
-    let p = writing::writing_refusal(kind, p, file.len())?;
+    let kind = Kind::try_from(kind)?;
+    let p = writing::writing_refusal(p, file.len())?;
     writing::write_bytes(kind, p, file);
     Ok(())
 }

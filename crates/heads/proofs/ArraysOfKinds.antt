@@ -3,19 +3,18 @@ use mathlib.Core.Path.{◌≡◌, refl, sym, ◌∙◌, ap, subst}
 use mathlib.Core.Bool.{Bool, true, false, cond, ◌||◌}
 use mathlib.Core.List.{List, [], ◌∷◌}
 use mathlib.Core.Logic.{◌≢◌, ◌⊎◌, inl, inr}
-use Prim.Native.Nat.{ℕ, zero, suc, ◌≤◌, ◌<◌}
+use Prim.Native.Nat.{ℕ, ◌≤◌, ◌<◌}
 use native.Mathlib.Decide.{ℕ_discrete}
 use borrow.Author.Tests.{ne_eqb}
 use lib.Dec.{T, lit≤, lit<, ltb, eqb, eqb→eq}
-use lib.ListN.{length, get_or}
+use lib.ListN.{length}
 use mir.Facts.{or_yes}
 use Rattle.array_sets.specs.declared.ArraySet.{ArraySet}
 use Rattle.array_sets.specs.declared.ArraySet.TheVariants.{F, G, ReducedModulo2, ReducedModuloQ}
-use Rattle.heads.specs.Kinds.{arrays_of, made_of_arrays, bundle_kind, known_kind}
-
-pub public_arrays : (kind : ℕ) → kind ≡ 1 → arrays_of kind ≡ ReducedModuloQ ∷ []
-unfolding arrays_of
-public_arrays kind e = ap arrays_of e
+use Rattle.std.specs.Prelude.{Result, Ok, Err, is_ok}
+use Rattle.refusals.specs.declared.Refusal.{Refusal}
+use Rattle.heads.specs.declared.kinds.Kind.{Kind}
+use Rattle.heads.specs.Kinds.{arrays_of, made_of_arrays, bundle_kind, known_kind, number_of_kind, KindOf}
 
 pub private_arrays : (kind : ℕ) → kind ≡ 2 → arrays_of kind ≡ F ∷ ReducedModulo2 ∷ ReducedModuloQ ∷ G ∷ []
 unfolding arrays_of
@@ -24,10 +23,6 @@ private_arrays kind e = ap arrays_of e
 pub sealed_arrays : (kind : ℕ) → kind ≡ 3 → arrays_of kind ≡ ReducedModuloQ ∷ []
 unfolding arrays_of
 sealed_arrays kind e = ap arrays_of e
-
-pub short_arrays : (kind : ℕ) → kind ≡ 5 → arrays_of kind ≡ ReducedModuloQ ∷ []
-unfolding arrays_of
-short_arrays kind e = ap arrays_of e
 
 -- what is left after the tests for kinds 1, 2 and 3
 abbrev from_5 : ℕ → List ArraySet
@@ -61,24 +56,6 @@ by_kind P p1 p2 p3 p5 none kind = go (ℕ_discrete kind 1) (ℕ_discrete kind 2)
     go (no e) (no d) (no f) (yes g) = at 5 p5 g
     go (no e) (no d) (no f) (no g) = subst (P kind) (sym (no_arrays kind e d f g)) (none kind)
 
--- every kind but the second holds remainders only
-pub remainders_only : (kind k : ℕ) → kind ≢ 2 → get_or (arrays_of kind) k ReducedModuloQ ≡ ReducedModuloQ
-unfolding arrays_of
-remainders_only kind k =
-    by_kind (λ n l. n ≢ 2 → get_or l k ReducedModuloQ ≡ ReducedModuloQ) (λ _. single k) (λ n. absurd (n refl)) (λ _. single k) (λ _. single k) (λ n _. refl) kind
-  where
-    single : (k : ℕ) → get_or (ReducedModuloQ ∷ []) k ReducedModuloQ ≡ ReducedModuloQ
-    single zero = refl
-    single (suc k) = refl
-
--- the third array of kind 2 is of remainders, and there is no fifth
-pub private_remainders : (k : ℕ) → k ≢ 0 → k ≢ 1 → k ≢ 3 → get_or (F ∷ ReducedModulo2 ∷ ReducedModuloQ ∷ G ∷ []) k ReducedModuloQ ≡ ReducedModuloQ
-private_remainders zero e0 e1 e3 = absurd (e0 refl)
-private_remainders (suc zero) e0 e1 e3 = absurd (e1 refl)
-private_remainders (suc (suc zero)) e0 e1 e3 = refl
-private_remainders (suc (suc (suc zero))) e0 e1 e3 = absurd (e3 refl)
-private_remainders (suc (suc (suc (suc k)))) e0 e1 e3 = refl
-
 -- a file holds at most four arrays
 pub at_most_four : (kind : ℕ) → length (arrays_of kind) ≤ 4
 unfolding arrays_of
@@ -95,6 +72,29 @@ kind_small kind t = go (or_yes (made_of_arrays kind) (eqb kind bundle_kind) t)
     go : T (made_of_arrays kind) ⊎ T (eqb kind bundle_kind) → kind < 256
     go (inl h) = of_arrays_small kind h
     go (inr h) = subst (λ (k : ℕ). k < 256) (sym (eqb→eq kind bundle_kind h)) (lit< tt)
+
+-- ---- the kinds, each with its number
+
+pub kind_known : (kind : Kind) → known_kind (number_of_kind kind) ≡ true
+unfolding arrays_of
+kind_known Kind.Public = refl
+kind_known Kind.Private = refl
+kind_known Kind.Sealed = refl
+kind_known Kind.Bundle = refl
+kind_known Kind.Short = refl
+
+pub number_small : (kind : Kind) → number_of_kind kind < 256
+number_small kind = kind_small (number_of_kind kind) (rw (kind_known kind) tt)
+
+-- a number is known where it is found to be a kind's
+pub kind_found : (number : ℕ) (r : Result Kind Refusal) → KindOf number r → is_ok r ≡ known_kind number
+kind_found number (Ok kind) h = rw (← h) (sym (kind_known kind))
+kind_found number (Err e) h = sym h.1
+
+-- there are five kinds
+pub no_kind : (kind : ℕ) → kind ≢ 1 → kind ≢ 2 → kind ≢ 3 → kind ≢ 4 → kind ≢ 5 → known_kind kind ≡ false
+no_kind kind e1 e2 e3 e4 e5 =
+    ap (λ (l : List ArraySet). ltb 0 (length l) || eqb kind bundle_kind) (no_arrays kind e1 e2 e3 e5) ∙ ne_eqb kind bundle_kind e4
 
 -- a kind of arrays is known
 pub of_arrays_known : (kind : ℕ) → T (made_of_arrays kind) → T (known_kind kind)

@@ -9,12 +9,13 @@ ghost use Rattle.opened_files.specs.Pairs.{opening_files};
 mod private_files;
 mod sealed_files;
 
+use heads::kinds::Kind;
 use refusals::Refusal;
 
 // The message goes to the front of the lent bytes, which have room for the longest one. The bytes behind it, and all of them after a refusal, are as they came.
 pub fn open_input(input: &[u8], message: &mut [u8; 256]) -> Result<usize, Refusal>
     ensures { GivesMessage (opening_files input.now) result message.old message.new }
 {
-    let p = head_reading::read_head(heads::kinds::PRIVATE, input)?;
+    let p = head_reading::read_head(Kind::Private as u32, input)?;
     private_files::open_private(p, input, message)
 }

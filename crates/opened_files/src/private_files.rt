@@ -8,6 +8,7 @@ ghost use Rattle.opened_arrays.specs.Answers.{GivesMessage};
 ghost use Rattle.opened_files.specs.Pairs.{opening_pair, opening_files};
 
 use crate::sealed_files::open_sealed;
+use heads::kinds::Kind;
 use parameters::Parameters;
 use refusals::Refusal;
 
@@ -23,8 +24,8 @@ fn open_private_in(
     ensures { GivesMessage (opening_pair first.now second.now) result message.old message.new }
 {
     let n = p.n;
-    let k = files::file_numbers(heads::kinds::PRIVATE, n);
-    file_reading::read(heads::kinds::PRIVATE, first, &mut numbers[..k])?;
+    let k = files::file_numbers(Kind::Private as u32, n);
+    file_reading::read(Kind::Private as u32, first, &mut numbers[..k])?;
     open_sealed(p, second, numbers, message)
 }
 
@@ -32,7 +33,7 @@ fn open_private_in(
 fn first_end(n: u32, all: usize) -> usize
     ensures { result ≡ min (file_bytes 2 n) all }
 {
-    files::file_bytes(heads::kinds::PRIVATE, n).min(all)
+    files::file_bytes(Kind::Private as u32, n).min(all)
 }
 
 pub(crate) fn open_private(

@@ -8,6 +8,7 @@ ghost use Rattle.opened_arrays.specs.Answers.{GivesMessage};
 ghost use Rattle.opened_files.specs.Pairs.{inverse_checks};
 ghost use Rattle.opened_files.specs.Steps.{KeyRead, key_in, SealedRead, opening_sealed};
 
+use heads::kinds::Kind;
 use opened_arrays::open_pair;
 use parameters::Parameters;
 use refusals::Refusal;
@@ -20,7 +21,7 @@ fn read_sealed(n: u32, m: u32, file: &[u8], numbers: &mut [i32]) -> Result<(), R
 {
     let f2_end = 4 * (n as usize);
     let end = f2_end + 2 * (m as usize);
-    file_reading::read(heads::kinds::SEALED, file, &mut numbers[f2_end..end])
+    file_reading::read(Kind::Sealed as u32, file, &mut numbers[f2_end..end])
 }
 
 fn open_sealed_in(
@@ -53,8 +54,8 @@ pub(crate) fn open_sealed(
     ensures { GivesMessage (opening_sealed (set_of p) (key_in (set_of p) numbers.old) file.now) result message.old message.new }
 {
     let n = p.n;
-    let k = files::file_numbers(heads::kinds::PRIVATE, n);
+    let k = files::file_numbers(Kind::Private as u32, n);
     let key = key_refusal(p, &numbers[..k]);
-    let sealed = head_reading::read_head(heads::kinds::SEALED, file)?;
+    let sealed = head_reading::read_head(Kind::Sealed as u32, file)?;
     open_sealed_in(p, key, sealed, file, numbers, message)
 }

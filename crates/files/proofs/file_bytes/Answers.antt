@@ -2,7 +2,6 @@
 use mathlib.Core.Path.{sym, ap, subst}
 use Prim.Native.Nat.{ℕ, ◌+◌, ◌*◌, ◌^◌, ◌≤◌}
 use native.Mathlib.Omega.{arith}
-use borrow.Author.Rules.{rules}
 use Rattle.heads.specs.Heads.{head_length}
 use Rattle.files.specs.Files.{file_bytes}
 use Rattle.heads.proofs.ArraysOfKinds.{at_most_four}

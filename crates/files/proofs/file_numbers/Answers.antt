@@ -2,7 +2,6 @@
 use mathlib.Core.Path.{sym, ap, subst}
 use Prim.Native.Nat.{ℕ, ◌*◌, ◌^◌, ◌≤◌}
 use native.Mathlib.Omega.{arith}
-use borrow.Author.Rules.{rules}
 use Rattle.files.specs.Files.{file_numbers}
 use Rattle.heads.proofs.ArraysOfKinds.{at_most_four}
 use Rattle.files.proofs.Bounds.{four_arrays}

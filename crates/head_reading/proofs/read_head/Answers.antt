@@ -1,6 +1,5 @@
 -- `read_head` meets its contract: the checks of the head, then those of the parameters.
 use mathlib.Core.Path.{◌≡◌, sym, ◌∙◌, ap}
-use borrow.Author.Rules.{rules}
 use Rattle.refusals.proofs.Errors.{err_is}
 use Rattle.parameters.specs.Sets.{made}
 use Rattle.refusals.specs.Outcomes.{outcome, Passes}

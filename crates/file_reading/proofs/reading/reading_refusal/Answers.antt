@@ -3,11 +3,10 @@ use mathlib.Core.Path.{◌≡◌, sym, ◌∙◌, ap, refl}
 use mathlib.Core.List.{List, []}
 use Prim.Native.Nat.{ℕ, ◌+◌, ◌*◌, ◌≤◌}
 use native.Mathlib.Omega.{arith}
-use borrow.Author.Rules.{rules}
-use borrow.Author.Tests.{not-true, not-false}
 use lib.IntN.{pos}
 use lib.ListN.{length, take, length-drop, replicate}
 use Rattle.refusals.specs.Outcomes.{outcome}
+use Rattle.heads.specs.Kinds.{number_of_kind}
 use Rattle.parameters.specs.Sets.{set_of}
 use Rattle.parameters.proofs.AcceptedParameters.{accepted_parameters}
 use Rattle.arrays.proofs.Sizes.{zeros_part}
@@ -20,22 +19,22 @@ use Rattle.files.proofs.Passed.{lengths_are, lengths_passed, lengths_refused, fi
 use Rattle.file_reading.proofs.reading.reading_refusal.Goals as goal
 use Rattle.file_reading.proofs.reading.reading_refusal.Goals.{Start}
 
-few : (s : Start) → s.args.p.n ≤ 1024
-few s = (accepted_parameters (set_of s.args.p) s.requires).N_small
+few : (s : Start) → s.args.p.parameters.n ≤ 1024
+few s = (accepted_parameters (set_of s.args.p.parameters) s.args.p.passes).N_small
 
 pub returns-then-not-lengths_right : goal.returns-then-not-lengths_right
-returns-then-not-lengths_right c = sym (lengths_refused c.args.kind (set_of c.args.p) _ c.args.room (length c.args.file.now) _ c.lengths_right.ensures (c.if-not-lengths_right.true))
+returns-then-not-lengths_right c = sym (lengths_refused (number_of_kind c.args.kind) (set_of c.args.p.parameters) _ c.args.room (length c.args.file.now) _ (rw c.number.ensures at c.lengths_right.ensures) (c.if-not-lengths_right.true))
 
 pub slice_bounds-stored_refusal-count : goal.slice_bounds-stored_refusal-count
 slice_bounds-stored_refusal-count c =
-    let long : length c.args.file.now ≡ head_length + 2 * file_numbers c.args.kind c.args.p.n = (lengths_are c.args.kind (set_of c.args.p) [] c.args.room (length c.args.file.now) _ c.lengths_right.ensures (c.if-not-lengths_right.false)).0
-    ∙ file_bytes_lem c.args.kind c.args.p.n in
+    let long : length c.args.file.now ≡ head_length + 2 * file_numbers (number_of_kind c.args.kind) c.args.p.parameters.n = (lengths_are (number_of_kind c.args.kind) (set_of c.args.p.parameters) [] c.args.room (length c.args.file.now) _ (rw c.number.ensures at c.lengths_right.ensures) (c.if-not-lengths_right.false)).0
+    ∙ file_bytes_lem (number_of_kind c.args.kind) c.args.p.parameters.n in
     omega (arith, long)
 
 pub slice_bounds-stored_refusal-start : goal.slice_bounds-stored_refusal-start
 slice_bounds-stored_refusal-start c =
-    let long : length c.args.file.now ≡ head_length + 2 * file_numbers c.args.kind c.args.p.n = (lengths_are c.args.kind (set_of c.args.p) [] c.args.room (length c.args.file.now) _ c.lengths_right.ensures (c.if-not-lengths_right.false)).0
-    ∙ file_bytes_lem c.args.kind c.args.p.n in
+    let long : length c.args.file.now ≡ head_length + 2 * file_numbers (number_of_kind c.args.kind) c.args.p.parameters.n = (lengths_are (number_of_kind c.args.kind) (set_of c.args.p.parameters) [] c.args.room (length c.args.file.now) _ (rw c.number.ensures at c.lengths_right.ensures) (c.if-not-lengths_right.false)).0
+    ∙ file_bytes_lem (number_of_kind c.args.kind) c.args.p.parameters.n in
     omega (arith, long)
 
 pub slice_bounds-x-end : goal.slice_bounds-x-end
@@ -43,18 +42,18 @@ slice_bounds-x-end c = omega (arith, few (goal.at.slice_bounds-x-end c).Start)
 
 pub slice_bounds-stored_refusal-end-2 : goal.slice_bounds-stored_refusal-end-2
 slice_bounds-stored_refusal-end-2 c =
-    let part : let n = c.args.p.n in length (take (2 * n) (replicate 2048 (pos 0))) ≡ 2 * n = zeros_part c.args.p.n _ (few (goal.at.slice_bounds-stored_refusal-end-2 c).Start) refl in
+    let part : let n = c.args.p.parameters.n in length (take (2 * n) (replicate 2048 (pos 0))) ≡ 2 * n = zeros_part c.args.p.parameters.n _ (few (goal.at.slice_bounds-stored_refusal-end-2 c).Start) refl in
     sym part
 
 pub stored_refusal-requires : goal.stored_refusal-requires
 stored_refusal-requires c =
-    let long : length c.args.file.now ≡ head_length + 2 * file_numbers c.args.kind c.args.p.n = (lengths_are c.args.kind (set_of c.args.p) [] c.args.room (length c.args.file.now) _ c.lengths_right.ensures (c.if-not-lengths_right.false)).0
-    ∙ file_bytes_lem c.args.kind c.args.p.n in
-    let part : let n = c.args.p.n in length (take (2 * n) (replicate 2048 (pos 0))) ≡ 2 * n = zeros_part c.args.p.n _ (few (goal.at.stored_refusal-requires c).Start) refl in
+    let long : length c.args.file.now ≡ head_length + 2 * file_numbers (number_of_kind c.args.kind) c.args.p.parameters.n = (lengths_are (number_of_kind c.args.kind) (set_of c.args.p.parameters) [] c.args.room (length c.args.file.now) _ (rw c.number.ensures at c.lengths_right.ensures) (c.if-not-lengths_right.false)).0
+    ∙ file_bytes_lem (number_of_kind c.args.kind) c.args.p.parameters.n in
+    let part : let n = c.args.p.parameters.n in length (take (2 * n) (replicate 2048 (pos 0))) ≡ 2 * n = zeros_part c.args.p.parameters.n _ (few (goal.at.stored_refusal-requires c).Start) refl in
     let file = c.args.file.now in
-    (c.requires, ap length (rest_taken head_length file) ∙ length-drop head_length file ∙ omega (arith, long), part)
+    (ap length (rest_taken head_length file) ∙ length-drop head_length file ∙ omega (arith, long), part)
 
 pub returns : goal.returns
 returns c = c.stored_refusal.ensures
-    ∙ ap (λ (x : List ℕ). outcome (set_checks (set_of c.args.p) (arrays_of c.args.kind) (numbers_from x)) (tt {0})) (rest_taken head_length c.args.file.now)
-    ∙ sym (lengths_passed c.args.kind (set_of c.args.p) _ c.args.room (length c.args.file.now) _ c.lengths_right.ensures (c.if-not-lengths_right.false))
+    ∙ ap (λ (x : List ℕ). outcome (set_checks (set_of c.args.p.parameters) (arrays_of (number_of_kind c.args.kind)) (numbers_from x)) (tt {0})) (rest_taken head_length c.args.file.now)
+    ∙ sym (lengths_passed (number_of_kind c.args.kind) (set_of c.args.p.parameters) _ c.args.room (length c.args.file.now) _ (rw c.number.ensures at c.lengths_right.ensures) (c.if-not-lengths_right.false))

@@ -1,50 +1,29 @@
--- `sets_refusal` meets its contract. The loop's invariant: what is refused is what the checks from array k on refuse.
-use mathlib.Core.Path.{◌≡◌, sym, ◌∙◌, ap}
-use mathlib.Core.List.{List, [], ◌∷◌}
-use Prim.Native.Nat.{ℕ, ◌+◌, ◌-◌, ◌*◌, ◌≤◌, ◌<◌}
-use native.Mathlib.Omega.{arith}
-use borrow.Author.Rules.{rules}
-use lib.ListN.{length, get_or, take, drop, length-drop}
-use lib.Seq.{length-take-le}
+-- `sets_refusal` meets its contract, by the invariant that the arrays before the k-th are passed.
+use Rattle.std.proofs.Common.{sym, ◌∙◌, ap, arith}
 use Rattle.refusals.proofs.Errors.{passed_on}
-use Rattle.refusals.specs.Outcomes.{Check, outcome}
 use Rattle.refusals.specs.Numbers.{answered}
 use Rattle.parameters.specs.Sets.{set_of}
-use Rattle.array_sets.specs.declared.ArraySet.TheVariants.{ReducedModuloQ}
-use Rattle.heads.specs.Kinds.{arrays_of}
-use Rattle.files.specs.Files.{array_at}
-use Rattle.files.specs.Calls.{set_checks}
-use Rattle.files.proofs.Bounds.{end_of_array}
-use Rattle.array_sets.proofs.ArrayChecks.{own, own_check}
-use Rattle.files.proofs.SetChecks.{first-array, set_at, from_array, array_passed, array_refused, all_arrays_passed}
+use Rattle.heads.specs.Kinds.{number_of_kind}
+use Rattle.files.proofs.JudgedArrays.{none_judged, all_judged, array_ends, one_more_judged, one_refused}
 use Rattle.file_writing.proofs.contents.sets_refusal.Goals as goal
 
-pub returns-in_err-array_refusal : goal.returns-in_err-array_refusal
-unfolding array_at
-returns-in_err-array_refusal c =
-    let within : (k : ℕ) → k < c.array_count-k-end.result → k < length (arrays_of c.args.kind) = λ k h. omega (arith, c.array_count-k-end.ensures) in
-    let end : (k : ℕ) → k < c.array_count-k-end.result → 2 * c.args.p.n * k + 2 * c.args.p.n ≤ length c.args.numbers.now = λ k h. omega (arith, c.requires.1, end_of_array c.args.kind c.args.p.n k (within k h)) in
-    let checked : outcome (own (set_of c.args.p) (set_at (set_of c.args.p) (arrays_of c.args.kind) c.args.numbers.now c.loop-k.k) (array_at (set_of c.args.p) c.loop-k.k c.args.numbers.now) ∷ []) (tt {0}) ≡ answered c.array_refusal.result = let x = c.args.numbers.now in
-    let k = c.loop-k.k in
-    let w = 2 * c.args.p.n in
-    let long : length (take w (drop (w * k) x)) ≡ w = length-take-le w (drop (w * k) x) (omega (arith, length-drop (w * k) x, end k c.loop-k-test.true)) in
-    sym (own_check (set_of c.args.p) (get_or (arrays_of c.args.kind) k ReducedModuloQ) (take w (drop (w * k) x)) c.requires.0 long) ∙ sym c.array_refusal.ensures in
-    passed_on _ _ c.from_residual.ensures.1 ∙ sym
-    (c.loop-k.invariant
-    ∙ array_refused (set_of c.args.p) (arrays_of c.args.kind) c.args.numbers.now c.loop-k.k _ (within c.loop-k.k c.loop-k-test.true) (checked ∙ ap answered c.in_err-array_refusal.was))
+pub loop-k-init : goal.loop-k-init
+loop-k-init c = none_judged (number_of_kind c.args.kind) (set_of c.args.p.parameters) c.args.numbers.now _ c.arrays-set-items.ensures c.requires
+
+pub array_refusal-requires : goal.array_refusal-requires
+array_refusal-requires c = array_ends (number_of_kind c.args.kind) (set_of c.args.p.parameters) c.args.numbers.now _ c.arrays-set-items.ensures c.requires c.loop-k.k c.loop-k-test.true
 
 pub loop-k-preserved : goal.loop-k-preserved
-unfolding array_at
 loop-k-preserved c =
-    let within : (k : ℕ) → k < c.array_count-k-end.result → k < length (arrays_of c.args.kind) = λ k h. omega (arith, c.array_count-k-end.ensures) in
-    let end : (k : ℕ) → k < c.array_count-k-end.result → 2 * c.args.p.n * k + 2 * c.args.p.n ≤ length c.args.numbers.now = λ k h. omega (arith, c.requires.1, end_of_array c.args.kind c.args.p.n k (within k h)) in
-    let checked : outcome (own (set_of c.args.p) (set_at (set_of c.args.p) (arrays_of c.args.kind) c.args.numbers.now c.loop-k.k) (array_at (set_of c.args.p) c.loop-k.k c.args.numbers.now) ∷ []) (tt {0}) ≡ answered c.array_refusal.result = let x = c.args.numbers.now in
-    let k = c.loop-k.k in
-    let w = 2 * c.args.p.n in
-    let long : length (take w (drop (w * k) x)) ≡ w = length-take-le w (drop (w * k) x) (omega (arith, length-drop (w * k) x, end k c.loop-k-test.true)) in
-    sym (own_check (set_of c.args.p) (get_or (arrays_of c.args.kind) k ReducedModuloQ) (take w (drop (w * k) x)) c.requires.0 long) ∙ sym c.array_refusal.ensures in
-    let h = c.loop-k-test.true in
-    c.loop-k.invariant ∙ array_passed (set_of c.args.p) (arrays_of c.args.kind) c.args.numbers.now c.loop-k.k (within c.loop-k.k h) (checked ∙ ap answered c.in_ok-array_refusal.was)
+    one_more_judged (number_of_kind c.args.kind) (set_of c.args.p.parameters) c.args.numbers.now _ c.arrays-set-items.ensures c.requires c.loop-k.k c.loop-k-test.true c.args.p.passes _ c.loop-k.invariant
+    (sym c.array_refusal.ensures ∙ ap answered c.in_ok-array_refusal.was)
+
+pub returns-in_err-array_refusal : goal.returns-in_err-array_refusal
+returns-in_err-array_refusal c =
+    passed_on _ _ c.from_residual.ensures.1
+    ∙ sym
+    (one_refused (number_of_kind c.args.kind) (set_of c.args.p.parameters) c.args.numbers.now _ c.arrays-set-items.ensures c.requires c.loop-k.k c.loop-k-test.true c.args.p.passes _ c.loop-k.invariant _
+    (sym c.array_refusal.ensures ∙ ap answered c.in_err-array_refusal.was))
 
 pub returns : goal.returns
-returns c = sym (c.loop-k.invariant ∙ all_arrays_passed (set_of c.args.p) (arrays_of c.args.kind) c.args.numbers.now c.loop-k.k (omega arith))
+returns c = sym (all_judged (number_of_kind c.args.kind) (set_of c.args.p.parameters) c.args.numbers.now _ c.arrays-set-items.ensures c.requires c.loop-k.k (omega arith) c.loop-k.invariant)

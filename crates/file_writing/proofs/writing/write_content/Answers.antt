@@ -3,13 +3,13 @@ use mathlib.Core.Path.{◌≡◌, refl, sym, ◌∙◌, ap}
 use mathlib.Core.List.{List}
 use Prim.Native.Nat.{ℕ}
 use native.Mathlib.Omega.{arith}
-use borrow.Author.Rules.{rules}
 use lib.ListN.{length}
 use Rattle.refusals.proofs.Errors.{passed_on}
 use Rattle.refusals.specs.Outcomes.{number}
 use Rattle.refusals.specs.Outcomes.{Check, outcome, Passes}
 use Rattle.refusals.specs.Numbers.{answered}
 use Rattle.refusals.proofs.Checks.{done_with, refused_with, gives_same}
+use Rattle.heads.specs.Kinds.{number_of_kind}
 use Rattle.parameters.specs.Sets.{set_of}
 use Rattle.files.specs.Files.{file_of}
 use Rattle.files.specs.Calls.{given_checks}
@@ -19,17 +19,17 @@ use Rattle.file_writing.proofs.writing.write_content.Goals as goal
 use Rattle.file_writing.proofs.writing.write_content.Goals.{Start}
 
 abbrev value_of : Start → List ℕ
-value_of s = file_of s.args.kind (set_of s.args.p) s.args.numbers.now
+value_of s = file_of (number_of_kind s.args.kind) (set_of s.args.p.parameters) s.args.numbers.now
 
 abbrev checks : Start → List Check
-checks s = given_checks s.args.kind (set_of s.args.p) s.args.numbers.now (length s.args.file.now)
+checks s = given_checks (number_of_kind s.args.kind) (set_of s.args.p.parameters) s.args.numbers.now (length s.args.file.now)
 
 pub write_file-requires : goal.write_file-requires
 write_file-requires c =
     let refusal_is : answered c.writing_refusal.result ≡ outcome (checks (goal.at.write_file-requires c).Start) (tt {0}) = c.writing_refusal.ensures in
     let all_passed : Passes (checks (goal.at.write_file-requires c).Start) = sym refusal_is ∙ ap answered c.in_ok-writing_refusal.was in
-    let P = set_of c.args.p in
-    let k = contents_passed c.args.kind P c.args.numbers.now (length c.args.numbers.now) (length c.args.file.now) all_passed in record { t = c.requires; file_len = (omega (arith, k.file_is, k.numbers_are, file_bytes_lem c.args.kind c.args.p.n), contents_small c.args.kind P c.args.numbers.now c.requires.1 k.numbers_are k.sets) }
+    let P = set_of c.args.p.parameters in
+    let k = contents_passed (number_of_kind c.args.kind) P c.args.numbers.now (length c.args.numbers.now) (length c.args.file.now) all_passed in (omega (arith, k.file_is, k.numbers_are, file_bytes_lem (number_of_kind c.args.kind) c.args.p.parameters.n), contents_small (number_of_kind c.args.kind) P c.args.numbers.now c.args.p.passes k.numbers_are k.sets)
 
 pub returns : goal.returns
 returns c =

@@ -1,7 +1,6 @@
 -- `head_parameters` meets its contract.
 use mathlib.Core.Path.{◌≡◌, ◌∙◌, ap}
 use Prim.Native.Nat.{ℕ}
-use borrow.Author.Rules.{rules}
 use lib.IntN.{ℤ}
 use Rattle.parameters.specs.Sets.{set, parameters}
 use Rattle.heads.specs.Heads.{head_of}

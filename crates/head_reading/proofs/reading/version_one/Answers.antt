@@ -1,7 +1,6 @@
 -- `version_one` meets its contract.
 use mathlib.Core.Path.{ap}
 use Prim.Native.Nat.{ℕ}
-use borrow.Author.Rules.{rules}
 use lib.Dec.{eqb}
 use Rattle.heads.specs.Heads.{version}
 use Rattle.head_reading.specs.Calls.{version_one}

@@ -9,7 +9,7 @@ use mir.Val.{SFits, to_z, of_z}
 use mir.Facts.{to_z-of_z}
 use Rattle.parameters.specs.Sets.{set_of}
 use Rattle.heads.specs.Heads.{bytes16, bits16, head_bytes}
-use Rattle.heads.proofs.ArraysOfKinds.{kind_small}
+use Rattle.heads.specs.Kinds.{number_of_kind}
 use Rattle.heads.proofs.PartsFit.{PartsFit, parts_fit}
 use Rattle.head_writing.proofs.writing.write_bytes.Goals as goal
 use Rattle.head_writing.proofs.writing.write_bytes.Goals.{Start}
@@ -36,9 +36,6 @@ overflow_cast-c c = let s = (goal.at.overflow_cast-c c).Start in subst (SFits w1
 pub overflow_cast-d : goal.overflow_cast-d
 overflow_cast-d c = let s = (goal.at.overflow_cast-d c).Start in subst (SFits w16) (sym (d_read s)) (fit s).d_fits
 
-pub write_mark-requires : goal.write_mark-requires
-write_mark-requires c = (kind_small c.args.kind c.requires.0, c.requires.1)
-
 pub write_number-requires : goal.write_number-requires
 write_number-requires c = ((fit (goal.at.write_number-requires c).Start).N_fits, omega arith)
 
@@ -56,4 +53,4 @@ returns c =
     let bits_c : c.bits_of.result ≡ bits16 c.args.p.parameters.c = c.bits_of.ensures.0 ∙ ap bits16 (c_handed s) in
     let bits_d : c.bits_of-2.result ≡ bits16 c.args.p.parameters.d = c.bits_of-2.ensures.0 ∙ ap bits16 (d_handed s) in
     rw (c.write_number-5.ensures, c.write_number-4.ensures, c.write_number-3.ensures, c.write_number-2.ensures, c.write_number.ensures, c.write_mark.ensures, bits_c, bits_d)
-    (sets-eq (head_bytes c.args.kind (set_of c.args.p.parameters)) c.args.file.now 0 c.requires.1)
+    (sets-eq (head_bytes (number_of_kind c.args.kind) (set_of c.args.p.parameters)) c.args.file.now 0 c.requires)
