@@ -1,6 +1,5 @@
 -- `open_input` meets its contract.
 use mathlib.Core.Path.{sym, ◌∙◌, ap}
-use borrow.Author.Rules.{rules}
 use Rattle.refusals.proofs.Errors.{err_is}
 use Rattle.parameters.specs.Sets.{made}
 use Rattle.opened_arrays.proofs.Answers.{gives_err}

@@ -1,16 +1,11 @@
 -- `open_sealed` meets its contract.
 use mathlib.Core.Path.{sym, ◌∙◌, ap, subst}
-use Prim.Native.Nat.{ℕ, ◌≤◌}
-use native.Mathlib.Omega.{arith}
-use borrow.Author.Rules.{rules}
-use lib.ListN.{length, take}
-use lib.Seq.{length-take-le}
+use Prim.Native.Nat.{ℕ}
+use lib.ListN.{take}
 use Rattle.refusals.proofs.Errors.{err_is}
 use Rattle.refusals.specs.Outcomes.{outcome}
 use Rattle.refusals.proofs.Checks.{refused_first}
 use Rattle.parameters.specs.Sets.{set_of, made}
-use Rattle.parameters.proofs.AcceptedParameters.{accepted_parameters}
-use Rattle.files.proofs.Bounds.{numbers_few}
 use Rattle.opened_files.specs.Pairs.{file_checks, inverse_checks}
 use Rattle.opened_files.specs.Steps.{KeyRead}
 use Rattle.opened_arrays.proofs.Answers.{gives_err}
