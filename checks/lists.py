@@ -105,16 +105,15 @@ def snake(name):
     return re.sub(r"(?<=[a-z])(?=[A-Z0-9])|(?<=[A-Z])(?=[A-Z])", "_", name).lower()
 
 
-# ---- Refusals: the names and numbers of the match in `Refusal::number`
+# ---- Refusals: the names and numbers of the enum `Refusal`
 
 
 def check_refusals(report):
     code = text(REFUSALS)
-    refusals = numbered(r"^ *Refusal::(\w+) => (\d+),$", code)
-    report.check(refusals, f"{REFUSALS}: no line like 'Refusal::WrongLength => 7,' is left to take the refusals from")
-    variants = re.findall(r"\w+", between("pub enum Refusal {", "}", code))
-    miss = f"{REFUSALS}: the enum's variants are not those of the match in `number`, in the same order"
-    report.check(variants == [name for name, _ in refusals], miss)
+    refusals = numbered(r"^    (\w+) = (\d+),$", between("pub enum Refusal {", "}", code))
+    report.check(refusals, f"{REFUSALS}: no line like 'WrongLength = 7,' is left to take the refusals from")
+    miss = f"{REFUSALS}: the enum's variants do not have the numbers from 1 on, in order"
+    report.check([number for _, number in refusals] == list(range(1, len(refusals) + 1)), miss)
     check_refusal_definition(report, refusals)
 
     constants = [("ETRU_OK", 0)] + [("ETRU_" + snake(name).upper(), number) for name, number in refusals]
@@ -153,14 +152,15 @@ def check_refusal_definition(report, refusals):
         report.check(found == refusals, f"{place}: the clauses of `number_of` are not in the order of {REFUSALS}")
 
 
-# ---- Kinds of file: the constants of `heads`
+# ---- Kinds of file: the enum of `heads`
 
 
 def check_kinds(report):
-    kinds = numbered(r"^pub const ([A-Z_]+): u32 = (\d+);$", text(KINDS))
+    kinds = numbered(r"^    (\w+) = (\d+),$", between("pub enum Kind {", "}", text(KINDS)))
+    kinds = [(snake(name).upper(), number) for name, number in kinds]
     names = [name for name, _ in kinds]
     numbers = [f"kind {number}" for _, number in kinds]
-    report.check(kinds, f"{KINDS}: no line like 'pub const PUBLIC: u32 = 1;' is left to take the kinds from")
+    report.check(kinds, f"{KINDS}: no line like 'Public = 1,' is left to take the kinds from")
 
     # a kind that is not made of arrays alone has a name there, such as bundle_kind
     place = "crates/heads/specs/Kinds.antt"

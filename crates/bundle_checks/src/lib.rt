@@ -42,6 +42,7 @@ pub fn check_bundle(file: &[u8]) -> Result<Parameters, Refusal>
 }
 
 // Where a reader begins, and the parameters of the bundle or its first refusal.
+// The place stands beside the answer, since a reader that is refused has one too: the end, where no entry is left.
 #[derive(Clone, Copy)]
 pub struct Start {
     pub at: usize,

@@ -50,6 +50,7 @@ pub fn next_at(bytes: &[u8], at: usize) -> usize
 }
 
 // One step for callers that hold a place: the entry's stop and the place of its array go to the outputs, and at moves on. Past the end nothing is written.
+// The answer is a bool and no Option, since the value goes to a lent output.
 pub fn next_entry(bytes: &[u8], at: &mut usize, stop: &mut u32, part: &mut usize) -> bool
     ensures value { (result ≡ stands_at bytes.now at.old) × (at.new ≡ next_at bytes.now at.old) }
     ensures stop_after { stop.new ≡ cond (stands_at bytes.now at.old)

@@ -46,6 +46,7 @@ fn read_into(file: &[u8], stops: &mut [u32])
 }
 
 // All stops, to stops, where there is room for just these. Answers whether there was.
+// The answer is a bool and no Option, since the value goes to a lent output.
 pub fn read_stops(file: &[u8], stops: &mut [u32]) -> bool
     ensures { Forms (eqb (length stops.old) (count_of file.now)) (stops_of (entries_of file.now)) result stops.old stops.new }
 {

@@ -90,6 +90,7 @@ fn multiply(x: &[i32], y: &[i32], n: usize, out: &mut [i32])
 }
 
 // x × y modulo 2, to out. Answers whether it was formed; nothing is written otherwise.
+// The answer is a bool and no Option, since the value goes to a lent output.
 pub fn multiply_modulo_2(n: u32, x: &[i32], y: &[i32], out: &mut [i32]) -> bool
     ensures { Forms (fit n (length x.now) (length y.now) (length out.old))
         (array n (λ i. mod2 (convolution n (coefficient x.now) (coefficient y.now) i))) result out.old out.new }

@@ -1,5 +1,6 @@
 // The refusals of convolution: the first that applies, in document 01's order.
 // It multiplies nothing.
+// The parts c and d of q are handed on one by one, as a parameter set has them and C: a pair would be made for the call and taken apart in it.
 
 #![tactic(auto)]
 

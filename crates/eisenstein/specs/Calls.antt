@@ -2,7 +2,7 @@
 use Rattle.std.specs.Prelude.{Err, Ok, Result}
 use Rattle.refusals.specs.declared.Refusal.{Refusal}
 use Rattle.eisenstein.specs.declared.Pair.{Pair}
-use Rattle.std.specs.Prelude.{Bool, ◌||◌, [], ◌∷◌, ℕ, ◌^◌, ltb, ℤ, nat_abs}
+use Rattle.std.specs.Prelude.{Bool, ◌||◌, [], ◌∷◌, ℕ, ◌^◌, ltb, nat_abs}
 use Rattle.refusals.specs.Outcomes.{Outcome, done, refused, outcome, ◌if◌}
 use Rattle.refusals.specs.Numbers.{number_of}
 use Rattle.eisenstein.specs.Values.{ℤ[ω], value}

@@ -31,8 +31,7 @@ const UNITS: [Pair; 6] = [
 pub fn unit(number: usize) -> Pair
     ensures { value result.a result.b ≡ unit (number % 6) }
 {
-    let k = number % 6;
-    UNITS[k]
+    UNITS[number % 6]
 }
 
 // A value whose parts need more room.
@@ -53,9 +52,7 @@ fn wide_norm(a: i64, b: i64) -> i64
 pub fn norm(a: i16, b: i16) -> u32
     ensures { result ≡ norm (value a b) }
 {
-    let aw = a as i64;
-    let bw = b as i64;
-    wide_norm(aw, bw) as u32
+    wide_norm(a as i64, b as i64) as u32
 }
 
 // Whether x is below −limit or above it.
@@ -63,10 +60,7 @@ fn outside(x: i64, limit: i64) -> bool
     requires { (pos 0 <ℤ limit) × (nat_abs limit ≤ 2 ^ 60) }
     ensures { result ≡ ltb (nat_abs limit) (nat_abs x) }
 {
-    if x < 0 - limit {
-        return true;
-    }
-    limit < x
+    x < -limit || limit < x
 }
 
 // Whether a part of (a, b) is below −limit or above it.
@@ -74,20 +68,14 @@ fn beyond(a: i64, b: i64, limit: i64) -> bool
     requires { (pos 0 <ℤ limit) × (nat_abs limit ≤ 2 ^ 60) }
     ensures { result ≡ beyond (nat_abs limit) (value a b) }
 {
-    if outside(a, limit) {
-        return true;
-    }
-    outside(b, limit)
+    outside(a, limit) || outside(b, limit)
 }
 
 // Whether (a, b) is zero.
 pub fn is_zero(a: i64, b: i64) -> bool
     ensures { result ≡ same (value a b) 𝟘 }
 {
-    if a == 0 {
-        return b == 0;
-    }
-    false
+    a == 0 && b == 0
 }
 
 // Whether x is odd.
@@ -122,9 +110,7 @@ const VALUE_LIMIT: i64 = 1_099_511_627_776;
 pub fn modulus_out_of_range(c: i32, d: i32) -> bool
     ensures { result ≡ beyond 4095 (value c d) }
 {
-    let cw = c as i64;
-    let dw = d as i64;
-    beyond(cw, dw, MODULUS_LIMIT)
+    beyond(c as i64, d as i64, MODULUS_LIMIT)
 }
 
 // Whether a part of the value (a, b) is out of range: the condition of refusal 22.

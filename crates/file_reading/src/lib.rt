@@ -18,6 +18,7 @@ use parameters::CheckedParameters;
 use refusals::Refusal;
 
 // The arrays of a file of the wanted kind, one after another in stored order, to numbers.
+// The kind is a number, as C hands it over: one that is no kind has refusal 19, after those that come before it.
 pub fn read(kind: u32, file: &[u8], numbers: &mut [i32]) -> Result<(), Refusal>
     ensures { Gives (reading kind file.now (length numbers.old)) (number (answered result)) numbers.old numbers.new }
 {

@@ -19,6 +19,7 @@ use parameters::Parameters;
 use refusals::Refusal;
 
 // A file of this kind, to file. The numbers are its arrays, one after another in stored order.
+// The kind is a number, as C hands it over: one that is no kind has refusal 19, after those that come before it.
 pub fn write(kind: u32, p: Parameters, numbers: &[i32], file: &mut [u8]) -> Result<(), Refusal>
     ensures { Gives (writing kind (set_of p) numbers.now (length file.old)) (number (answered result)) file.old file.new }
 {

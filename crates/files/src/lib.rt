@@ -19,6 +19,7 @@ fn array_count(kind: u32) -> usize
 }
 
 // The lengths of a file of this kind, in bytes and in numbers of its arrays; of a kind that is not made of arrays alone, those of its head.
+// The kind is a number, as C hands it over: one that is no kind has refusal 19, after those that come before it.
 pub fn file_bytes(kind: u32, n: u32) -> usize
     ensures { result ≡ file_bytes kind n }
 {

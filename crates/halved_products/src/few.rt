@@ -26,6 +26,7 @@ fn few_wrapped_at(x: &[i32], y: &[i32], n: usize, i: usize) -> Wide
 }
 
 // x × y reduced modulo q, to out, for at most 16 coefficients. Answers whether it was formed; nothing is written otherwise.
+// The answer is a bool and no Option, since the value goes to a lent output.
 pub(crate) fn convolve_few(x: &[i32], y: &[i32], n: usize, c: i32, d: i32, out: &mut [i32]) -> bool
     requires { Convolvable n (value c d) x.now y.now out.old }
     ensures { (result ≡ leb n 16) × (out.new ≡ cond (leb n 16) (array n (λ i. mod_q (value c d) (convolution n (coefficient x.now) (coefficient y.now) i))) out.old) }

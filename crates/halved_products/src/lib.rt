@@ -1,6 +1,7 @@
 // The product by halving (document 02, wish 5), before the wrap, and the convolution of at most 16 coefficients, where halving ends.
 // It takes no room of its own: whoever calls it lends the room for the smaller products.
 // No function relies on its caller.
+// The parts c and d of q are handed on one by one, as a parameter set has them and C: a pair would be made for the call and taken apart in it.
 
 #![tactic(auto)]
 
@@ -23,6 +24,7 @@ use refusals::Refusal;
 
 // The product of two arrays of n coefficients, before the wrap: 2n coefficients at the start of w, which has room for the smaller products behind them.
 // Answers whether it was formed; w is as it came otherwise, and x and y are so in either case. What stands behind the product afterwards is left free.
+// The answer is a bool and no Option, since the value goes to a lent output.
 pub fn multiply_halved(x: &mut [i32], y: &mut [i32], n: usize, w: &mut [i64]) -> bool
     ensures { (x.new ≡ x.old) × (y.new ≡ y.old)
         × Multiplies (fit_for_halving n x.old y.old (length w.old)) n x.old y.old result w.old w.new }

@@ -14,6 +14,7 @@ use parameters::Parameters;
 use refusals::Refusal;
 
 // The parameters of a file of the wanted kind, from its head alone: they tell how long the file is and how many numbers it holds.
+// The kind is a number, as C hands it over: one that is no kind has refusal 19, after those that come before it.
 pub fn read_head(kind: u32, file: &[u8]) -> Result<Parameters, Refusal>
     ensures { made result ≡ reading_head kind file.now }
 {

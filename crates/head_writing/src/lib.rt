@@ -15,6 +15,7 @@ use parameters::Parameters;
 use refusals::Refusal;
 
 // The head of a file of this kind, to the front of file. What stands behind it is left as it came.
+// The kind is a number, as C hands it over: one that is no kind has refusal 19, after those that come before it.
 pub fn write_head(kind: u32, p: Parameters, file: &mut [u8]) -> Result<(), Refusal>
     ensures { Gives (writing_head kind (set_of p) file.old) (number (answered result)) file.old file.new }
 {

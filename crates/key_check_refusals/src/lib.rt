@@ -1,5 +1,6 @@
 // The refusals of the key check up to those of its arrays: the first that applies, in document 01's order.
 // Whether F2 and Fq are inverses of f is not asked here.
+// The arrays of a key are handed on one by one, as C lends them: a struct of references would be made for the call and taken apart in it.
 
 #![tactic(auto)]
 

@@ -38,6 +38,7 @@ fn write_digits(message: &[u8], line: &mut [u8]) -> usize
 }
 
 // The line of a message, to the front of line. Answers its length, or 0 where it does not fit.
+// A number and no Option, as the clause `Writes` has it: no line is empty, so 0 tells that none was written.
 pub fn write_message(message: &[u8], line: &mut [u8]) -> usize
     ensures { Writes (line_of (done message.now)) result line.old line.new }
 {

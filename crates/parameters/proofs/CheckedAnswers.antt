@@ -1,6 +1,5 @@
 -- What the answer of `checked` tells of its set.
 use mathlib.Core.Path.{◌≡◌, sym}
-use Rattle.std.specs.Prelude.{Result, Ok, Err}
 use Rattle.refusals.specs.Outcomes.{done, refused, outcome, Passes}
 use Rattle.refusals.specs.Numbers.{number_of}
 use Rattle.refusals.specs.declared.Refusal.{Refusal}

@@ -1,6 +1,7 @@
 // Products of arrays, reduced: the product with an array of zeros and units, modulo q and modulo 2.
 // What an array stands for in the scheme is not this crate's business.
 // No function relies on its caller: each asks of its arrays what its arithmetic needs.
+// The parts c and d of q are handed on one by one, as a parameter set has them and C: a pair would be made for the call and taken apart in it.
 
 #![tactic(auto)]
 
@@ -20,6 +21,7 @@ use remainders::remainder_q;
 use unit_products::multiply_units;
 
 // x × y modulo q = (c, d), to out, where x is of zeros and units. Answers whether it was formed; nothing is written otherwise.
+// The answer is a bool and no Option, since the value goes to a lent output.
 pub fn multiply_units_modulo_q(
     n: u32,
     c: i32,

@@ -2,6 +2,7 @@
 // It uses only the public contracts of the three calls, and adds nothing to the library.
 // Any key that is accepted, any ephemeral of its set and any message come back as exactly that message, with no refusal,
 // and two messages that are sealed to equal arrays are equal.
+// The arrays of a key are handed on one by one, as C lends them: a struct of references would be made for the call and taken apart in it.
 
 #![tactic(auto)]
 

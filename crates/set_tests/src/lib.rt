@@ -1,6 +1,7 @@
 // The tests of an array that its sets are made of: so many units, units in whole triples, and being reduced modulo 2 and modulo q.
 // It knows no parameter set, and refuses nothing.
 // No function relies on a length, on N or on a modulus.
+// The parts c and d of q are handed on one by one, as a parameter set has them and C: a pair would be made for the call and taken apart in it.
 
 #![tactic(auto)]
 

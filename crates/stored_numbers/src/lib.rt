@@ -1,5 +1,6 @@
 // Numbers as they are stored, two bytes each: read from bytes, and written to them.
 // It knows no file and no parameter set. A call answers whether it could, and writes nothing otherwise.
+// The answer is a bool and no Option, since the value goes to a lent output.
 
 #![tactic(auto)]
 

@@ -21,6 +21,7 @@ pub fn multipliable(n: u32, x: &[i32], y: &[i32], room: usize) -> bool
 }
 
 // y, and y again after it, to `twice`, so that each rotation of y is one run of numbers. Answers whether it was laid out; nothing is written otherwise.
+// The answer is a bool and no Option, since the value goes to a lent output.
 pub fn lay_out_twice(y: &[i32], twice: &mut [i16]) -> bool
     ensures { Forms (repeatable y.now (length twice.old)) (y.now ++ y.now) result twice.old twice.new }
 {

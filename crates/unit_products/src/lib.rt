@@ -12,6 +12,7 @@ mod places;
 mod rotations;
 
 // x × y, to out, where x is of zeros and units. Answers whether it was formed; nothing is written otherwise.
+// The answer is a bool and no Option, since the value goes to a lent output.
 pub fn multiply_units(n: u32, x: &[i32], y: &[i32], out: &mut [i32]) -> bool
     ensures { Forms (multipliable n x.now y.now (length out.old))
         (array n (convolution n (coefficient x.now) (coefficient y.now))) result out.old out.new }

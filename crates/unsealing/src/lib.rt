@@ -2,6 +2,7 @@
 // It reads no file, and does not ask again whether F2 is the inverse of f.
 // It ends with `Ok`, or with document 01's first refusal that applies, and then its output is as it came.
 // At every N `open` takes less than 28 KiB of stack.
+// The arrays of a key are handed on one by one, as C lends them: a struct of references would be made for the call and taken apart in it.
 
 #![tactic(auto)]
 

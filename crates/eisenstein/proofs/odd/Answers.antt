@@ -1,13 +1,12 @@
 -- `odd` meets its contract.
-use mathlib.Core.Path.{refl, ◌∙◌, ap}
+use mathlib.Core.Path.{◌∙◌, ap}
 use mathlib.Core.Bool.{not}
 use lib.Dec.{eqb}
 use lib.IntN.{ℤ, pos}
-use lib.Signed.{rem_z, lt_z_yes}
+use lib.Signed.{rem_z}
 use mir.Syntax.{w64}
 use mir.Val.{of_z}
 use mir.Facts.{to_z-of_z}
-use Rattle.integers.proofs.Machine.{division}
 use Rattle.eisenstein.proofs.Modulo2.{odd_test}
 use Rattle.eisenstein.proofs.odd.Goals as goal
 

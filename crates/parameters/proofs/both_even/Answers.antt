@@ -7,7 +7,7 @@ use lib.Dec.{eqb}
 use lib.IntN.{ℤ, nat_abs}
 use mir.Syntax.{w32, w64}
 use mir.Val.{SFits, to_z, of_z}
-use Rattle.integers.proofs.Machine.{cast_fits, cast_read}
+use Rattle.integers.proofs.Machine.{cast_read}
 use Rattle.eisenstein.specs.Reduction.{bit}
 use Rattle.parameters.specs.Sets.{even}
 use Rattle.parameters.proofs.both_even.Goals as goal
