@@ -29,8 +29,8 @@ ghost use Rattle.short_scheme.specs.Calls.{short_sealing, short_opening};
 ghost use Rattle.opening.specs.Program.{line_writing, line_length};
 
 use parameters::Parameters;
-use refusals::status;
 use placed_units::PlacedUnit;
+use refusals::status;
 
 // The remainder of (a, b) modulo q = (c, d), to ra and rb.
 #[unsafe(no_mangle)]

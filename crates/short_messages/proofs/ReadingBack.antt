@@ -14,7 +14,7 @@ use Rattle.packing.specs.Messages.{message_bytes, bit_of, byte, spare_bit_set}
 use Rattle.packing.specs.Promises.{Bytes}
 use Rattle.packing.proofs.RoundTrips.{bit_of_lt, listed_length, listed_at, listed-bit, listed_bytes, listed-is, spare_zero, zero_spare}
 use Rattle.short_messages.specs.ShortMessages.{padded_bit, padded, last_one, ends_no_short, not_short, bytes_before, short_of}
-use Rattle.short_messages.specs.Promises.{Short, LongestIsLargest, PaddedBits, PaddedBitsHold, PaddedWhole, PaddedReads, PaddedDistinct, ReadFromJustOne}
+use Rattle.short_messages.specs.Promises.{Short, LongestIsLargest, PaddedBitsHold, PaddedWhole, PaddedReads, PaddedDistinct, ReadFromJustOne}
 use Rattle.short_messages.proofs.LastOnes.{last_is, Last, last_known}
 use Rattle.short_messages.proofs.PaddedBits.{own_bit, one_bit, zero_bit, padded_lt, own_byte}
 

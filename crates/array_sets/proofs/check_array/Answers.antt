@@ -1,10 +1,8 @@
 -- `check_array` meets its contract: the parameter set's checks, then those of the array.
 use mathlib.Core.Path.{sym, ◌∙◌, ap}
 use mathlib.Core.List.{List}
-use borrow.Author.Rules.{rules}
 use Rattle.refusals.proofs.Errors.{passed_on}
-use Rattle.refusals.specs.Outcomes.{Check, Passes, outcome}
-use Rattle.refusals.specs.Numbers.{answered}
+use Rattle.refusals.specs.Outcomes.{Check, outcome}
 use Rattle.refusals.proofs.Checks.{passed_all, refused_first}
 use Rattle.parameters.specs.Sets.{ParameterSet, set_of, parameter_checks}
 use Rattle.parameters.specs.declared.Parameters.{Parameters}

@@ -1,6 +1,5 @@
 -- `etru_begin_bundle` meets its contract.
 use mathlib.Core.Path.{sym, ◌∙◌, ap}
-use borrow.Author.Rules.{rules}
 use Rattle.refusals.proofs.Checks.{gives_done, gives_refused}
 use Rattle.parameters.specs.Sets.{made}
 use Rattle.heads.specs.Heads.{head_of}

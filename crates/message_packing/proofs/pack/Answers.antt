@@ -1,13 +1,11 @@
 -- `pack` meets its contract.
-use mathlib.Core.Path.{sym, ◌∙◌, ap}
+use mathlib.Core.Path.{sym}
 use mathlib.Core.List.{List}
-use borrow.Author.Rules.{rules}
 use lib.IntN.{ℤ}
 use lib.ListN.{length}
 use Rattle.refusals.proofs.Errors.{gives_passed_on}
 use Rattle.refusals.specs.Outcomes.{Check, Passes}
-use Rattle.refusals.specs.Numbers.{answered}
-use Rattle.refusals.proofs.Checks.{gives_done, gives_refused}
+use Rattle.refusals.proofs.Checks.{gives_done}
 use Rattle.polynomials.specs.Polynomials.{array}
 use Rattle.packing.specs.Messages.{packed}
 use Rattle.message_packing.specs.Calls.{packing_checks, packing}

@@ -1,13 +1,11 @@
 -- `seal_and_open` meets its contract.
-use mathlib.Core.Path.{◌≡◌, refl, ap}
+use mathlib.Core.Path.{◌≡◌, ap}
 use mathlib.Core.List.{List}
 use Prim.Native.Nat.{ℕ}
-use borrow.Author.Rules.{rules}
 use lib.IntN.{ℤ}
 use lib.ListN.{length}
 use Rattle.refusals.specs.Outcomes.{Outcome, done}
 use Rattle.refusals.proofs.Checks.{gives_same}
-use Rattle.refusals.proofs.Numbers.{answer_refused}
 use Rattle.parameters.specs.Sets.{set_of}
 use Rattle.etru.specs.Calls.{sealing, opening}
 use Rattle.round_trip.specs.RoundTrip.{next}

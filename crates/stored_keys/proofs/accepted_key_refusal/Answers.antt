@@ -1,9 +1,8 @@
 -- `accepted_key_refusal` meets its contract.
 use mathlib.Core.Path.{◌≡◌, refl, sym, ap}
-use mathlib.Core.List.{List}
 use Prim.Native.Nat.{◌*◌, ◌≤◌}
 use native.Mathlib.Omega.{arith}
-use lib.IntN.{ℤ, pos}
+use lib.IntN.{pos}
 use lib.ListN.{length, take, replicate}
 use Rattle.refusals.specs.Outcomes.{number}
 use Rattle.parameters.specs.Sets.{set_of}

@@ -7,7 +7,6 @@ use Rattle.parameters.specs.Sets.{set_of}
 use Rattle.array_sets.specs.Sets.{array_check}
 use Rattle.files.specs.Files.{array_at}
 use Rattle.file_writing.proofs.contents.array_refusal.Goals as goal
-use Rattle.file_writing.proofs.contents.array_refusal.Goals.{Start}
 
 pub returns : goal.returns
 unfolding array_at

@@ -1,10 +1,8 @@
 -- `key_refusal` meets its contract: the checks before the inverses, then those of the inverses.
-use mathlib.Core.Path.{◌≡◌, sym, ◌∙◌, ap}
+use mathlib.Core.Path.{◌≡◌, sym, ◌∙◌}
 use mathlib.Core.List.{List, ◌++◌}
-use borrow.Author.Rules.{rules}
 use Rattle.refusals.proofs.Errors.{passed_on}
 use Rattle.refusals.specs.Outcomes.{Check, outcome, Passes}
-use Rattle.refusals.specs.Numbers.{answered}
 use Rattle.refusals.proofs.Checks.{passed_all, refused_first}
 use Rattle.parameters.specs.Sets.{ParameterSet, set_of, parameter_checks}
 use Rattle.etru.specs.Calls.{key_array_checks, inverse_checks, key_checks}
