@@ -26,8 +26,7 @@ fn open_message(
     requires { length message.old ≡ 256 }
     ensures { GivesMessage (opening (set_of p) f.now f2.now e.now (message_bytes p.n)) result message.old message.new }
 {
-    let n = p.n;
-    let k = packing::message_bytes(n).min(256);
+    let k = packing::message_bytes(p.n).min(256);
     unsealing::open(p, f, f2, e, &mut message[..k])?;
     Ok(k)
 }
@@ -37,8 +36,7 @@ fn open_arrays(p: Parameters, numbers: &[i32], message: &mut [u8]) -> Result<usi
     requires { length message.old ≡ 256 }
     ensures { GivesMessage (opening_arrays (set_of p) numbers.now) result message.old message.new }
 {
-    let n = p.n;
-    let width = 2 * (n as usize);
+    let width = 2 * (p.n as usize);
     let f_end = width.min(numbers.len());
     let f2_end = (2 * width).min(numbers.len());
     let e_end = (3 * width).min(numbers.len());

@@ -23,8 +23,7 @@ fn open_private_in(
     requires { (reading_head 2 first.now ≡ done (set_of p)) × (length numbers.old ≡ 8192) }
     ensures { GivesMessage (opening_pair first.now second.now) result message.old message.new }
 {
-    let n = p.n;
-    let k = files::file_numbers(Kind::Private as u32, n);
+    let k = files::file_numbers(Kind::Private as u32, p.n);
     file_reading::read(Kind::Private as u32, first, &mut numbers[..k])?;
     open_sealed(p, second, numbers, message)
 }
@@ -44,15 +43,7 @@ pub(crate) fn open_private(
     requires { reading_head 2 input.now ≡ done (set_of p) }
     ensures { GivesMessage (opening_files input.now) result message.old message.new }
 {
-    let n = p.n;
-    let end = first_end(n, input.len());
+    let end = first_end(p.n, input.len());
     let mut numbers = [0i32; 8192];
-    let all = 8192;
-    open_private_in(
-        p,
-        &input[..end],
-        &input[end..],
-        &mut numbers[..all],
-        message,
-    )
+    open_private_in(p, &input[..end], &input[end..], &mut numbers, message)
 }

@@ -37,9 +37,7 @@ fn open_sealed_in(
     requires file_value { reading_head 3 file.now ≡ done (set_of sealed) }
     ensures { GivesMessage (opening_sealed (set_of p) (key_in (set_of p) numbers.old) file.now) result message.old message.new }
 {
-    let n = p.n;
-    let m = sealed.n;
-    read_sealed(n, m, file, numbers)?;
+    read_sealed(p.n, sealed.n, file, numbers)?;
     open_pair(p, key, sealed, numbers, message)
 }
 
@@ -53,8 +51,7 @@ pub(crate) fn open_sealed(
     requires { KeyRead (set_of p) (key_in (set_of p) numbers.old) × (length numbers.old ≡ 8192) }
     ensures { GivesMessage (opening_sealed (set_of p) (key_in (set_of p) numbers.old) file.now) result message.old message.new }
 {
-    let n = p.n;
-    let k = files::file_numbers(Kind::Private as u32, n);
+    let k = files::file_numbers(Kind::Private as u32, p.n);
     let key = key_refusal(p, &numbers[..k]);
     let sealed = head_reading::read_head(Kind::Sealed as u32, file)?;
     open_sealed_in(p, key, sealed, file, numbers, message)

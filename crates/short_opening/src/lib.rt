@@ -28,9 +28,8 @@ fn open_bits(
     requires { (length bits.old ≡ message_bytes p.n) × (length message.old ≡ longest_short p.n) }
     ensures { GivesMessage (short_opening (set_of p) f.now f2.now e.now (length message.old)) result message.old message.new }
 {
-    let n = p.n;
     unsealing::open(p, f, f2, e, bits)?;
-    reading::read_short(n, bits, message)
+    reading::read_short(p.n, bits, message)
 }
 
 // With room for the bits of every N.
