@@ -77,14 +77,14 @@ struct Modulus {
 }
 
 impl Modulus {
-    // The modulus (c, d), which neither refusal 2 nor 21 meets.
-    fn new(c: i32, d: i32) -> Self
+    // The modulus (c, d), which neither refusal 2 nor 21 meets. Its parts come as i64, since with the casts in here LLVM computes c − d twice.
+    fn new(c: i64, d: i64) -> Self
         requires { (nat_abs c ≤ 4095) × (nat_abs d ≤ 4095) × (value c d ≢ 𝟘) }
         ensures { value result.c result.d ≡ value c d }
     {
         Modulus {
-            c: c as i64,
-            d: d as i64,
+            c,
+            d,
             norm: norm(c as i16, d as i16) as i64,
         }
     }
@@ -157,7 +157,7 @@ fn remainder_of(a: i64, b: i64, c: i32, d: i32) -> Pair
     requires { Passes (reduction_checks (value c d) (value a b)) }
     ensures { value result.a result.b ≡ mod_q (value c d) (value a b) }
 {
-    Modulus::new(c, d).remainder(Wide { a, b })
+    Modulus::new(c as i64, d as i64).remainder(Wide { a, b })
 }
 
 // One value (a, b) modulo q = (c, d): refusals 2, 21, 22, or the remainder.

@@ -2,9 +2,10 @@
 use mathlib.Core.Path.{sym, ◌∙◌, subst}
 use Prim.Native.Nat.{◌≤◌, ◌^◌}
 use lib.IntN.{nat_abs}
+use mir.Syntax.{w64}
 use Rattle.eisenstein.specs.Values.{ℤ[ω], value}
 use Rattle.eisenstein.proofs.Limits.{within}
-use Rattle.eisenstein.proofs.Pairs.{pair_read}
+use Rattle.eisenstein.proofs.Pairs.{pair_read, pair_cast}
 use Rattle.remainders.proofs.Limits.{Reducible, reducible}
 use Rattle.remainders.proofs.remainder_of.Goals as goal
 use Rattle.remainders.proofs.remainder_of.Goals.{Start}
@@ -20,7 +21,7 @@ passed s = reducible (q s) (x s) s.requires
 
 pub new-requires : goal.new-requires
 new-requires c =
-    let e = pair_read c.ranges.c c.ranges.d in
+    let e = pair_cast w64 tt c.ranges.c c.ranges.d in
     let (m, n) = within 4095 (q c) (passed c).q_small in (
       subst (λ (y : ℤ[ω]). nat_abs y.a ≤ 4095) (sym e) m,
       subst (λ (y : ℤ[ω]). nat_abs y.b ≤ 4095) (sym e) n,
