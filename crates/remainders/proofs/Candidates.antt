@@ -27,12 +27,6 @@ module _ {r s : ℤ[ω]} {m n : ℤ} (d : Differ r m s n) where
   pub differ_back : Differ s n r m
   differ_back = record { sums = sym d.sums }
 
--- the same of what is read of r, m, s and n
-pub differ_read : {r s r' s' : ℤ[ω]} {m n m' n' : ℤ} → r' ≡ r → m' ≡ m → s' ≡ s → n' ≡ n → Differ r m s n → Differ r' m' s' n'
-differ_read e f g h d = record {
-  sums = ap₂ (λ (r : ℤ[ω]) (n : ℤ). pos (norm r) +ℤ n) e h ∙ d.sums ∙ sym (ap₂ (λ (s : ℤ[ω]) (m : ℤ). pos (norm s) +ℤ m) g f);
-}
-
 -- the norm of r is k plus m
 pub record Excess (k : ℕ) (r : ℤ[ω]) (m : ℤ) : Type 0 where
   pub norm-is : pos (norm r) ≡ pos k +ℤ m

@@ -1,3 +1,4 @@
 pub mod Corners
 pub mod Limits
 pub mod Candidates
+pub mod Moduli

@@ -6,7 +6,7 @@
 ghost use Rattle.std.specs.Prelude.{◌≡◌, cond, ◌≢◌, ◌≤◌, ◌^◌, pos, nat_abs, ◌+ℤ◌, ◌-ℤ◌, ◌<ℤ◌};
 ghost use Rattle.std.specs.Int.Signed.{shr_z};
 ghost use Rattle.refusals.specs.Outcomes.{written, Passes};
-ghost use Rattle.eisenstein.specs.Values.{value, 𝟘, norm};
+ghost use Rattle.eisenstein.specs.Values.{value, 𝟘, norm as norm_of};
 ghost use Rattle.eisenstein.specs.Reduction.{better, best, corner, mod_q};
 ghost use Rattle.eisenstein.specs.Calls.{answered};
 ghost use Rattle.remainders.specs.Calls.{reduction_checks, reduce_q, with_coefficient};
@@ -64,73 +64,100 @@ impl Candidate {
     }
 }
 
-// (a, b) less q·(z, w), for q = (c, d) of the norm n and z, w the parts of (a, b)·conj(q) over n, rounded down. No part of q is above n, so its product with z or w is little above what was divided.
-fn first_corner(a: i64, b: i64, c: i64, d: i64, n: i64) -> Wide
-    requires { (nat_abs a ≤ 2 ^ 40) × (nat_abs b ≤ 2 ^ 40) × (nat_abs c ≤ 4095) × (nat_abs d ≤ 4095) × (value c d ≢ 𝟘) × (n ≡ pos (norm (value c d))) }
-    ensures { (value result.a result.b ≡ corner (value c d) (value a b) 0 0) × (nat_abs result.a ≤ 2 ^ 14) × (nat_abs result.b ≤ 2 ^ 14) }
-{
-    let z = floor_quotient(a * (c - d) + b * d, n);
-    let w = floor_quotient(b * c - a * d, n);
-    let wd = w * d;
-    Wide {
-        a: a - (z * c - wd),
-        b: b - (z * d + w * c - wd),
+// A modulus (c, d) that values are reduced by, and its norm.
+#[derive(Clone, Copy)]
+struct Modulus {
+    c: i64,
+    d: i64,
+    norm: i64,
+    ghost c_in_range: { nat_abs c ≤ 4095 },
+    ghost d_in_range: { nat_abs d ≤ 4095 },
+    ghost nonzero: { value c d ≢ 𝟘 },
+    ghost norm_is: { norm ≡ pos (norm_of (value c d)) },
+}
+
+impl Modulus {
+    // The modulus (c, d), which neither refusal 2 nor 21 meets. Its parts come as i64, since with the casts in here LLVM computes c − d twice.
+    fn new(c: i64, d: i64) -> Self
+        requires { (nat_abs c ≤ 4095) × (nat_abs d ≤ 4095) × (value c d ≢ 𝟘) }
+        ensures { value result.c result.d ≡ value c d }
+    {
+        Modulus {
+            c,
+            d,
+            norm: norm(c as i16, d as i16) as i64,
+        }
+    }
+
+    // x less q·(z, w), for q this modulus and z, w the parts of x·conj(q) over its norm, rounded down. No part of q is above the norm, so its product with z or w is little above what was divided.
+    fn first_corner(self, x: Wide) -> Wide
+        requires { (nat_abs x.a ≤ 2 ^ 40) × (nat_abs x.b ≤ 2 ^ 40) }
+        ensures { (value result.a result.b ≡ corner (value self.c self.d) (value x.a x.b) 0 0) × (nat_abs result.a ≤ 2 ^ 14) × (nat_abs result.b ≤ 2 ^ 14) }
+    {
+        let z = floor_quotient(x.a * (self.c - self.d) + x.b * self.d, self.norm);
+        let w = floor_quotient(x.b * self.c - x.a * self.d, self.norm);
+        let wd = w * self.d;
+        Wide {
+            a: x.a - (z * self.c - wd),
+            b: x.b - (z * self.d + w * self.c - wd),
+        }
+    }
+
+    // The best of the four corners, of which r is the first: the others are less q, qω and q(1 + ω), for q this modulus.
+    // The norm of r − w is the norm of r, plus that of w, less the trace of r·conj(w): x and y are the traces for q and qω, and x + y is that for q(1 + ω).
+    fn best_corner(self, r: Wide) -> Wide
+        requires { (nat_abs r.a ≤ 2 ^ 14) × (nat_abs r.b ≤ 2 ^ 14) }
+        ensures { value result.a result.b ≡ best (best (value r.a r.b) (value (r.a -ℤ self.c) (r.b -ℤ self.d))) (best (value (r.a +ℤ self.d) ((r.b -ℤ self.c) +ℤ self.d)) (value ((r.a -ℤ self.c) +ℤ self.d) (r.b -ℤ self.c))) }
+    {
+        let e = self.c + self.c - self.d;
+        let x = r.a * e + r.b * (self.d + self.d - self.c);
+        let y = r.b * e - r.a * (self.c + self.d);
+        let first = Candidate {
+            a: r.a,
+            b: r.b,
+            excess: 0,
+        };
+        let lower = first.best(Candidate {
+            a: r.a - self.c,
+            b: r.b - self.d,
+            excess: self.norm - x,
+        });
+        let third = Candidate {
+            a: r.a + self.d,
+            b: r.b - self.c + self.d,
+            excess: self.norm - y,
+        };
+        let upper = third.best(Candidate {
+            a: r.a - self.c + self.d,
+            b: r.b - self.c,
+            excess: self.norm - x - y,
+        });
+        let found = lower.best(upper);
+        Wide {
+            a: found.a,
+            b: found.b,
+        }
+    }
+
+    // The remainder of x, whose parts fit 32 bits.
+    fn remainder(self, x: Wide) -> Pair
+        requires { (nat_abs x.a ≤ 2 ^ 40) × (nat_abs x.b ≤ 2 ^ 40) }
+        ensures { value result.a result.b ≡ mod_q (value self.c self.d) (value x.a x.b) }
+    {
+        let r = self.best_corner(self.first_corner(x));
+        Pair {
+            a: r.a as i32,
+            b: r.b as i32,
+        }
     }
 }
 
-// The best of the four corners, of which (u, v) is the first: the others are less q, qω and q(1 + ω), for q = (c, d) of the norm n.
-// The norm of r − w is the norm of r, plus that of w, less the trace of r·conj(w): x and y are the traces for q and qω, and x + y is that for q(1 + ω).
-fn best_corner(u: i64, v: i64, c: i64, d: i64, n: i64) -> Wide
-    requires { (nat_abs u ≤ 2 ^ 14) × (nat_abs v ≤ 2 ^ 14) × (nat_abs c ≤ 4095) × (nat_abs d ≤ 4095) × (n ≡ pos (norm (value c d))) }
-    ensures { value result.a result.b ≡ best (best (value u v) (value (u -ℤ c) (v -ℤ d))) (best (value (u +ℤ d) ((v -ℤ c) +ℤ d)) (value ((u -ℤ c) +ℤ d) (v -ℤ c))) }
-{
-    let e = c + c - d;
-    let x = u * e + v * (d + d - c);
-    let y = v * e - u * (c + d);
-    let first = Candidate {
-        a: u,
-        b: v,
-        excess: 0,
-    };
-    let lower = first.best(Candidate {
-        a: u - c,
-        b: v - d,
-        excess: n - x,
-    });
-    let third = Candidate {
-        a: u + d,
-        b: v - c + d,
-        excess: n - y,
-    };
-    let upper = third.best(Candidate {
-        a: u - c + d,
-        b: v - c,
-        excess: n - x - y,
-    });
-    let r = lower.best(upper);
-    Wide { a: r.a, b: r.b }
-}
-
-// The remainder of (a, b) modulo (c, d).
-fn remainder(a: i64, b: i64, c: i64, d: i64) -> Wide
-    requires { (nat_abs a ≤ 2 ^ 40) × (nat_abs b ≤ 2 ^ 40) × (nat_abs c ≤ 4095) × (nat_abs d ≤ 4095) × (value c d ≢ 𝟘) }
-    ensures { value result.a result.b ≡ mod_q (value c d) (value a b) }
-{
-    let n = norm(c as i16, d as i16) as i64;
-    let first = first_corner(a, b, c, d, n);
-    best_corner(first.a, first.b, c, d, n)
-}
-
-// The same in 32 bits, where nothing is refused.
+// The remainder of (a, b) modulo (c, d), where nothing is refused.
 fn remainder_of(a: i64, b: i64, c: i32, d: i32) -> Pair
     requires { Passes (reduction_checks (value c d) (value a b)) }
     ensures { value result.a result.b ≡ mod_q (value c d) (value a b) }
 {
-    let r = remainder(a, b, c as i64, d as i64);
-    Pair {
-        a: r.a as i32,
-        b: r.b as i32,
-    }
+    Modulus::new(c as i64, d as i64).remainder(Wide { a, b })
 }
 
 // One value (a, b) modulo q = (c, d): refusals 2, 21, 22, or the remainder.
