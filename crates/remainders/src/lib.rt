@@ -36,6 +36,7 @@ struct Candidate {
 
 impl Candidate {
     // Whether it is better than s, by the rule of remainders. Their norms differ as their excesses do.
+    // One test a line, in the order of the rule: a comparison of tuples would want the parts turned round.
     fn is_better_than(self, s: Candidate) -> bool
         requires { Differ (value self.a self.b) self.excess (value s.a s.b) s.excess }
         ensures { result ≡ better (value self.a self.b) (value s.a s.b) }
