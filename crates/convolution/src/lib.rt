@@ -1,6 +1,6 @@
 // Convolution modulo q: document 01's call, by halving (document 02, wish 5).
 // It knows nothing of keys and messages, and no other product.
-// It ends with `Done`, or with document 01's first refusal that applies, and then its output is as it came.
+// It ends with `Ok`, or with document 01's first refusal that applies, and then its output is as it came.
 // The parts c and d of q are handed on one by one, as a parameter set has them and C: a pair would be made for the call and taken apart in it.
 
 #![tactic(auto)]

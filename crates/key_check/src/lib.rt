@@ -1,6 +1,6 @@
 // The key check: whether f, F2, Fq and g are a key, and its public key h.
 // It makes no key, and keeps none.
-// It ends with `Done`, or with document 01's first refusal that applies, and then its output is as it came.
+// It ends with `Ok`, or with document 01's first refusal that applies, and then its output is as it came.
 // At every N `check_key` takes less than 28 KiB of stack.
 // The arrays of a key are handed on one by one, as C lends them: a struct of references would be made for the call and taken apart in it.
 

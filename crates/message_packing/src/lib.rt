@@ -1,5 +1,5 @@
 // The call of packing: a message's bytes to the polynomial that they stand for. It seals nothing.
-// It ends with `Done`, or with document 01's first refusal that applies, and then its output is as it came.
+// It ends with `Ok`, or with document 01's first refusal that applies, and then its output is as it came.
 
 #![tactic(auto)]
 

@@ -1,5 +1,5 @@
 // The call of unpacking: a polynomial to the bytes of the message that it stands for; and that both calls undo each other. It opens nothing.
-// It ends with `Done`, or with document 01's first refusal that applies, and then its output is as it came.
+// It ends with `Ok`, or with document 01's first refusal that applies, and then its output is as it came.
 
 #![tactic(auto)]
 

@@ -1,6 +1,6 @@
 // Sealing: a message to the array e, with a public key and an ephemeral.
 // It draws no ephemeral and writes no file.
-// It ends with `Done`, or with document 01's first refusal that applies, and then its output is as it came.
+// It ends with `Ok`, or with document 01's first refusal that applies, and then its output is as it came.
 // At every N `seal` takes less than 12 KiB of stack.
 
 #![tactic(auto)]

@@ -1,5 +1,5 @@
 // Sealing a short message: its bits, a 1 and zeros up to 2N to the array e, with a public key and an ephemeral.
-// It ends with `Done`, or with the first refusal that applies, and then its output is as it came.
+// It ends with `Ok`, or with the first refusal that applies, and then its output is as it came.
 // At every N it takes less than 12 KiB of stack.
 
 #![tactic(auto)]

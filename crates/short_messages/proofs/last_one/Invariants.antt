@@ -10,6 +10,3 @@ use Rattle.short_messages.proofs.last_one.Given as goal
 
 abbrev pub invariant-loop-k : goal.invariant-loop-k
 invariant-loop-k l = (l.k ≤ 2 * l.n) × (last_one (2 * l.n) (bit_of l.message) ≡ last_one l.k (bit_of l.message))
-
-abbrev pub decreases-loop-k : goal.decreases-loop-k
-decreases-loop-k l = l.k
