@@ -22,6 +22,8 @@ pub fn convolve(p: Parameters, x: &[i32], y: &[i32], out: &mut [i32]) -> Result<
     ensures { Gives (convolving (set_of p) x.now y.now (length out.old)) (number (answered result)) out.old out.new }
 {
     let formed = convolve_up_to_16(p, x, y, out)?;
-    wrapping::convolve_unless(formed, x, y, p.n as usize, p.c, p.d, out);
+    if !formed {
+        wrapping::convolve(x, y, p.n as usize, p.c, p.d, out);
+    }
     Ok(())
 }

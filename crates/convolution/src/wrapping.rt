@@ -92,23 +92,11 @@ fn convolve_with_copies<const LENGTH: usize>(
     convolve_copies(out, &mut copy[..y.len()], n, c, d);
 }
 
-// x × y reduced modulo q = (c, d), to out, unless it is formed already.
-pub(crate) fn convolve_unless(
-    formed: bool,
-    x: &[i32],
-    y: &[i32],
-    n: usize,
-    c: i32,
-    d: i32,
-    out: &mut [i32],
-)
-    requires { (formed ≡ leb n 16) × Convolvable n (value c d) x.now y.now out.old }
-    ensures { out.new ≡ cond formed out.old (array n (λ i. mod_q (value c d) (convolution n (coefficient x.now) (coefficient y.now) i))) }
+// x × y reduced modulo q = (c, d), to out, by halving. A small N has less room to clear.
+pub(crate) fn convolve(x: &[i32], y: &[i32], n: usize, c: i32, d: i32, out: &mut [i32])
+    requires { (2 ≤ n) × Convolvable n (value c d) x.now y.now out.old }
+    ensures { Convolved n (value c d) x.now y.now out.new }
 {
-    if formed {
-        return;
-    }
-    // A small N has less room to clear.
     if n <= 128 {
         convolve_with_copies::<256>(x, y, n, c, d, out);
     } else {

@@ -301,11 +301,9 @@ pub extern "C" fn etru_begin_bundle(file: &[u8], at: &mut usize) -> u32
     ensures { Gives (outcome (bundle_checks file.now) (start_of file.now)) result at.old at.new }
 {
     let start = bundle_checks::begin(file);
-    let first = start.at;
-    let made = start.made;
-    match made {
-        Ok(p) => {
-            *at = first;
+    match start.made {
+        Ok(_) => {
+            *at = start.at;
             0
         }
         Err(refusal) => refusal.number(),
@@ -326,10 +324,7 @@ pub extern "C" fn etru_next_entry(
         (stored_at (head_of file.now).N file.now at.old).stop stop.old }
     ensures part_after { part.new ≡ cond (stands_at file.now at.old) (at.old + stop_length) part.old }
 {
-    if bundle_steps::next_entry(file, at, stop, part) {
-        return 1;
-    }
-    0
+    u32::from(bundle_steps::next_entry(file, at, stop, part))
 }
 
 // Opens an entry of a bundle: part is its sealed array, 4N of the bundle's bytes. The message goes to message.

@@ -1,16 +1,18 @@
 -- `convolve` meets its contract.
 use mir.Syntax.{w32}
 use mathlib.Core.Path.{◌≡◌, sym, ◌∙◌, ap}
-use mathlib.Core.Bool.{Bool, true, false, cond}
+use mathlib.Core.Bool.{Bool, cond}
 use mathlib.Core.List.{List, ◌++◌}
-use Prim.Native.Nat.{ℕ}
+use Prim.Native.Nat.{ℕ, ◌<◌}
 use borrow.Author.Rules.{rules}
 use lib.Dec.{leb}
 use lib.IntN.{ℤ}
 use lib.ListN.{length}
 use Rattle.refusals.proofs.Errors.{passed_on}
 use Rattle.refusals.specs.Outcomes.{Check, Outcome, Passes, done, refused, outcome, number, written}
-use Rattle.refusals.proofs.Checks.{carried, carried_refused, outcome_carried, done_with, done_parts}
+use borrow.Author.Tests.{leb-false}
+use native.Mathlib.Omega.{arith}
+use Rattle.refusals.proofs.Checks.{gives_done, carried, carried_refused, outcome_carried, done_parts}
 use Rattle.eisenstein.specs.Values.{ℤ[ω]}
 use Rattle.eisenstein.specs.Reduction.{mod_q}
 use Rattle.eisenstein.proofs.Pairs.{pair_read}
@@ -33,34 +35,36 @@ checks s = parameter_checks (P s) ++ convolving_checks (P s).N (P s).q s.args.x.
 abbrev value_of : Start → ℤ[ω] → List ℤ
 value_of s q = array (P s).N (λ i. mod_q q (convolution (P s).N (coefficient s.args.x.now) (coefficient s.args.y.now) i))
 
--- what was written, by direct sums or after them
-either : (t : Bool) (v o : List ℤ) {l w : List ℤ} → l ≡ cond t v o → w ≡ cond t l v → w ≡ v
-either true v o e f = f ∙ e
-either false v o e f = f
-
 -- a refusal is that of every value
 refused_any : {A B : Type 0} (cs : List Check) (a : A) (b : B) (n : ℕ) → outcome cs a ≡ refused n → outcome cs b ≡ refused n
 refused_any {A} {B} cs a b n e = outcome_carried (λ (_ : A). b) cs a ∙ ap (carried (λ (_ : A). b)) e ∙ carried_refused (λ (_ : A). b) n
 
-pub convolve_unless-requires : goal.convolve_unless-requires
+pub convolve-requires : goal.convolve-requires
 unfolding convolving beginning
-convolve_unless-requires c =
-    let formed : Bool = c.in_ok-formed.formed in
-    let told : outcome (checks (goal.at.convolve_unless-requires c).Start) (leb (P (goal.at.convolve_unless-requires c).Start).N 16) ≡ done formed = sym c.in_ok-formed.ensures.0 in
-    let all_passed : Passes (checks (goal.at.convolve_unless-requires c).Start) × (leb (P (goal.at.convolve_unless-requires c).Start).N 16 ≡ formed) = done_parts (checks (goal.at.convolve_unless-requires c).Start) (leb (P (goal.at.convolve_unless-requires c).Start).N 16) formed told in
+convolve-requires c =
+    let s = (goal.at.convolve-requires c).Start in
+    let all_passed : Passes (checks s) × (leb (P s).N 16 ≡ c.in_ok-formed.formed) = done_parts (checks s) (leb (P s).N 16) c.in_ok-formed.formed (sym c.in_ok-formed.ensures.0) in
+    let above : 16 < c.args.p.n = leb-false (P s).N 16 (all_passed.1 ∙ c.if-not-formed.true) in
     let o = c.convolve_up_to_16 in
-    (sym all_passed.1, convolvable_handed (P (goal.at.convolve_unless-requires c).Start).N c.args.x.now c.args.y.now o.new.out (search rules) (search rules) (convolvable_to o.new.out o.auto.out (convolving_passed (P (goal.at.convolve_unless-requires c).Start) c.args.x.now c.args.y.now c.args.out.now all_passed.0)))
+    (omega arith, convolvable_handed (P s).N c.args.x.now c.args.y.now o.new.out (search rules) (search rules) (convolvable_to o.new.out o.auto.out (convolving_passed (P s) c.args.x.now c.args.y.now c.args.out.now all_passed.0)))
 
-pub returns : goal.returns
+pub returns-then-not-formed : goal.returns-then-not-formed
 unfolding convolving beginning
-returns c =
-    let formed : Bool = c.in_ok-formed.formed in
-    let told : outcome (checks (goal.at.returns c).Start) (leb (P (goal.at.returns c).Start).N 16) ≡ done formed = sym c.in_ok-formed.ensures.0 in
-    let all_passed : Passes (checks (goal.at.returns c).Start) × (leb (P (goal.at.returns c).Start).N 16 ≡ formed) = done_parts (checks (goal.at.returns c).Start) (leb (P (goal.at.returns c).Start).N 16) formed told in
-    let begun = c.convolve_up_to_16 in
-    let v = value_of (goal.at.returns c).Start (P (goal.at.returns c).Start).q in
-    let o = done_with (checks (goal.at.returns c).Start) v all_passed.0 in
-    (sym (ap number o), either formed v c.args.out.now (begun.ensures.1 ∙ ap (λ (x : Outcome Bool). left x v c.args.out.now) told) (c.convolve_unless.ensures ∙ ap (λ (q : ℤ[ω]). cond formed begun.new.out (value_of (goal.at.returns c).Start q)) (pair_read {w = w32} (search rules) (search rules))) ∙ sym (ap (λ (x : Outcome (List ℤ)). written x c.args.out.now) o))
+returns-then-not-formed c =
+    let s = (goal.at.returns-then-not-formed c).Start in
+    let all_passed : Passes (checks s) × (leb (P s).N 16 ≡ c.in_ok-formed.formed) = done_parts (checks s) (leb (P s).N 16) c.in_ok-formed.formed (sym c.in_ok-formed.ensures.0) in
+    gives_done (checks s) (value_of s (P s).q) c.args.out.now _ all_passed.0
+    (c.convolve.ensures ∙ ap (λ (q : ℤ[ω]). value_of s q) (pair_read {w = w32} (search rules) (search rules)))
+
+pub returns-else-not-formed : goal.returns-else-not-formed
+unfolding convolving beginning
+returns-else-not-formed c =
+    let s = (goal.at.returns-else-not-formed c).Start in
+    let v = value_of s (P s).q in
+    let told : outcome (checks s) (leb (P s).N 16) ≡ done c.in_ok-formed.formed = sym c.in_ok-formed.ensures.0 in
+    let all_passed : Passes (checks s) × (leb (P s).N 16 ≡ c.in_ok-formed.formed) = done_parts (checks s) (leb (P s).N 16) c.in_ok-formed.formed told in
+    gives_done (checks s) v c.args.out.now _ all_passed.0
+    (c.convolve_up_to_16.ensures.1 ∙ ap (λ (x : Outcome Bool). left x v c.args.out.now) told ∙ ap (λ (t : Bool). cond t v c.args.out.now) c.if-not-formed.false)
 
 pub returns-in_err-formed : goal.returns-in_err-formed
 unfolding convolving beginning

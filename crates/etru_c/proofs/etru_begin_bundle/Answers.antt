@@ -11,7 +11,7 @@ use Rattle.etru_c.proofs.etru_begin_bundle.Goals as goal
 pub returns-in-Ok : goal.returns-in-Ok
 returns-in-Ok c = let file = c.args.file.now in
     let e = sym (ap made c.in-Ok.is) ∙ c.begin-start.ensures.1 in
-    let passes = (made_accepted (bundle_checks file) (head_of file) c.in-Ok.p e).0 in
+    let passes = (made_accepted (bundle_checks file) (head_of file) c.in-Ok.field-0 e).0 in
     gives_done (bundle_checks file) _ c.args.at.now _ passes c.begin-start.ensures.0
 
 pub returns-in-Err : goal.returns-in-Err
