@@ -1,5 +1,5 @@
 -- The outcomes of the two calls on a list of places, with the refusals in document 02's order. An output is known by its length, `room`.
-use Rattle.std.specs.Prelude.{not, ◌&&◌, List, [], ◌∷◌, ◌++◌, ℕ, eqb, ℤ, length}
+use Rattle.std.specs.Prelude.{not, ◌&&◌, List, [], ◌∷◌, ◌++◌, ℕ, ◌*◌, eqb, ltb, ℤ, length}
 use Rattle.refusals.specs.Outcomes.{Check, Outcome, outcome, ◌if◌}
 use Rattle.parameters.specs.Sets.{ParameterSet, parameter_checks}
 use Rattle.polynomials.specs.Polynomials.{coefficient, array, whole_triples, reduced_q}
@@ -8,6 +8,7 @@ use Rattle.packing.specs.Messages.{message_bytes, packed, spare_bit_set}
 use Rattle.etru.specs.Scheme.{sealed}
 use Rattle.placed_units.specs.declared.PlacedUnit.{PlacedUnit}
 use Rattle.placed_units.specs.PlacedUnits.{any_out_of_range, any_place_twice, spread}
+use Rattle.placed_units.specs.Layout.{records_from}
 
 -- "23 if a place is N or more or a unit number is above 5, 24 if a place occurs twice, both after h's check and before 10, with 23 first over the whole list."
 -- "The zero-sum rule stays under 10": wish 3's narrower set has it.
@@ -44,3 +45,15 @@ places_sealing_checks p h places message room =
 unfoldable pub places_sealing : ParameterSet → (h : List ℤ) → List PlacedUnit → (message : List ℕ) → ℕ → Outcome (List ℤ)
 places_sealing p h places message room =
     outcome (parameter_checks p ++ places_sealing_checks p h places message room) (array p.N (sealed p (coefficient h) (spread places) (packed message)))
+
+-- The same of a list that is laid out as numbers, of which so many records are taken: 7 also where they are not all there.
+abbrev pub not_all_there : (length records : ℕ) → Check
+not_all_there n records = 7 if ltb n (2 * records)
+
+unfoldable pub numbers_spreading : ParameterSet → (numbers : List ℕ) → (records room : ℕ) → Outcome (List ℤ)
+numbers_spreading p numbers records room =
+    outcome (parameter_checks p ++ not_all_there (length numbers) records ∷ spreading_checks p (records_from numbers 0 records) room) (array p.N (spread (records_from numbers 0 records)))
+
+unfoldable pub numbers_sealing : ParameterSet → (h : List ℤ) → (numbers : List ℕ) → (records : ℕ) → (message : List ℕ) → ℕ → Outcome (List ℤ)
+numbers_sealing p h numbers records message room =
+    outcome (parameter_checks p ++ not_all_there (length numbers) records ∷ places_sealing_checks p h (records_from numbers 0 records) message room) (array p.N (sealed p (coefficient h) (spread (records_from numbers 0 records)) (packed message)))

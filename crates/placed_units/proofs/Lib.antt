@@ -1,3 +1,4 @@
 pub mod Lists
+pub mod Layouts
 pub mod Orders
 pub mod PlacesOf

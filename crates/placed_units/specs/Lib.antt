@@ -1,1 +1,2 @@
 pub mod PlacedUnits
+pub mod Layout

@@ -1,5 +1,5 @@
 // A record of an ephemeral that is stored as places (document 02, wish 1): a place, and the number of the unit that stands there.
-// Its definitions say which lists of records are refused, and what a list spreads to. It has no function.
+// Its definitions say which lists of records are refused, what a list spreads to, and how one is laid out as numbers. It has no function.
 
 #![tactic(auto)]
 
