@@ -8,7 +8,7 @@ ghost use Rattle.std.specs.Prelude.{length};
 ghost use Rattle.refusals.specs.Outcomes.{number, Gives};
 ghost use Rattle.refusals.specs.Numbers.{answered};
 ghost use Rattle.parameters.specs.Sets.{set_of};
-ghost use Rattle.placed_ephemerals.specs.Calls.{places_sealing};
+ghost use Rattle.placed_ephemerals.specs.Calls.{places_sealing, numbers_sealing};
 
 mod spread;
 
@@ -29,4 +29,23 @@ pub fn seal_places(
 {
     spread::refusal_before_places(p, h, places.len(), message.len(), e.len())?;
     spread::seal_spread(p, h, places, message, e)
+}
+
+// The same of the list of `count` records that is laid out as numbers. Numbers behind the list are not looked at.
+pub fn seal_numbers(
+    p: Parameters,
+    h: &[i32],
+    numbers: &[u32],
+    count: usize,
+    message: &[u8],
+    e: &mut [i32],
+) -> Result<(), Refusal>
+    ensures { Gives (numbers_sealing (set_of p) h.now numbers.now count message.now (length e.old))
+        (number (answered result)) e.old e.new }
+{
+    place_spreading::check_numbers(p, numbers.len(), count)?;
+    let mut room = [PlacedUnit { place: 0, unit: 0 }; 1024];
+    let places = &mut room[..count];
+    place_spreading::read_places(numbers, places);
+    seal_places(p, h, places, message, e)
 }
