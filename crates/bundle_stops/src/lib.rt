@@ -12,6 +12,7 @@ ghost use Rattle.bundles.specs.Bundles.{stops_of, entry_start, count_of, stop_in
 use bundle_heads::{coefficient_count, entry_count};
 use bundles::{FIRST_ENTRY, entry_length};
 use heads::bytes::unsigned_at;
+use stop_sets::StopList;
 
 // "a 16-bit stop number", of the entry at this place.
 pub fn stop_in(file: &[u8], at: usize) -> u32
@@ -29,11 +30,36 @@ fn stop_of(file: &[u8], k: usize) -> u32
     stop_in(file, FIRST_ENTRY + width * k)
 }
 
+// The stops of a bundle's entries, with their number.
+#[derive(Clone, Copy)]
+struct EntryStops<'a> {
+    file: &'a [u8],
+    count: u16,
+    ghost counted: { count ≡ count_of file.now },
+}
+
+impl<'a> StopList for EntryStops<'a> {
+    ghost stops = { λ entries. stops_of (entries_of entries.file.now) };
+
+    fn count(&self) -> usize {
+        usize::from(self.count)
+    }
+
+    fn stop(&self, k: usize) -> u16 {
+        if k < usize::from(self.count) {
+            stop_of(self.file, k) as u16
+        } else {
+            0
+        }
+    }
+}
+
 // Whether a stop occurs twice. The set of those that were seen takes 8 KiB of stack.
 pub fn any_stop_twice(file: &[u8]) -> bool
     ensures { result ≡ any_twice (stops_of (entries_of file.now)) }
 {
-    stop_sets::any_twice_of(entry_count(file) as usize, |k| stop_of(file, k) as u16)
+    let count = entry_count(file) as u16;
+    stop_sets::any_twice_of(&EntryStops { file, count })
 }
 
 fn read_into(file: &[u8], stops: &mut [u32])

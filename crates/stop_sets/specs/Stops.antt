@@ -1,5 +1,5 @@
 -- Document 02, wish 2, 25: "a stop number occurs twice".
-use Rattle.std.specs.Prelude.{◌≡◌, Bool, false, ◌||◌, List, [], ◌∷◌, ℕ, ◌<◌, eqb, length, get_or}
+use Rattle.std.specs.Prelude.{Bool, false, ◌||◌, List, [], ◌∷◌, ℕ, eqb}
 
 -- whether a list has this stop
 unfoldable pub occurs : ℕ → List ℕ → Bool
@@ -9,8 +9,3 @@ occurs s (r ∷ stops) = eqb r s || occurs s stops
 unfoldable pub any_twice : List ℕ → Bool
 any_twice [] = false
 any_twice (s ∷ stops) = occurs s stops || any_twice stops
-
--- A list is what calls answer at its places.
-pub record Reads (answers : ℕ → ℕ → Type 0) (count : ℕ) (stops : List ℕ) : Type 0 where
-  pub long : length stops ≡ count
-  pub read : (k s : ℕ) → k < count → answers k s → get_or stops k 0 ≡ s
