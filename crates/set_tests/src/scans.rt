@@ -12,14 +12,14 @@ fn nonzero_at(x: &[i32], i: usize) -> bool
     requires { (i < 2 ^ 32) × (2 * i + 1 < length x.now) }
     ensures { result ≡ nonzero (coefficient x.now i) }
 {
-    x[2 * i] != 0 || x[2 * i + 1] != 0
+    !equal_at(x, i, 0, 0)
 }
 
 fn equal_at(x: &[i32], i: usize, a: i32, b: i32) -> bool
     requires { (i < 2 ^ 32) × (2 * i + 1 < length x.now) }
     ensures { result ≡ same (coefficient x.now i) (value a b) }
 {
-    // Both parts are compared, whatever the first gave, so that the counting loop takes several coefficients at once.
+    // Both parts are compared, whatever the first gave, so that the counting loops take several coefficients at once.
     (x[2 * i] == a) & (x[2 * i + 1] == b)
 }
 
