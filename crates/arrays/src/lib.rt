@@ -9,6 +9,13 @@ ghost use Rattle.eisenstein.specs.Values.{value, same};
 ghost use Rattle.polynomials.specs.Polynomials.{coefficient};
 ghost use Rattle.arrays.specs.Arrays.{full, Zeros};
 
+// Zeros, with room for an array at the largest N: 8 KiB of the caller's stack.
+pub fn zeros() -> [i32; 2048]
+    ensures { result ≡ replicate 2048 (pos 0) }
+{
+    [0i32; 2048]
+}
+
 // One number of an array, 0 past its end.
 pub fn at(x: &[i32], k: usize) -> i64
     ensures { (result ≡ get_or x.now k (pos 0)) × (nat_abs result ≤ 2 ^ 31) }

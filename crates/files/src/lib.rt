@@ -34,6 +34,13 @@ pub fn file_numbers(kind: u32, n: u32) -> usize
     2 * (n as usize) * count
 }
 
+// Zeros, with room for the longest file's numbers, four arrays at the largest N: 32 KiB of the caller's stack.
+pub fn four_arrays() -> [i32; 8192]
+    ensures { result ≡ replicate 8192 (pos 0) }
+{
+    [0i32; 8192]
+}
+
 // Whether a file of this kind and its numbers have these lengths.
 pub fn lengths_right(kind: u32, n: u32, numbers: usize, file: usize) -> bool
     ensures { result ≡ right_lengths kind n numbers file }
