@@ -3,11 +3,11 @@ use mathlib.Core.Path.{◌≡◌, refl, sym, ◌∙◌, ap, subst}
 use mathlib.Core.Bool.{Bool, true, false, cond, ◌||◌}
 use mathlib.Core.List.{List, [], ◌∷◌}
 use mathlib.Core.Logic.{◌≢◌, ◌⊎◌, inl, inr}
-use Prim.Native.Nat.{ℕ, ◌≤◌, ◌<◌}
+use Prim.Native.Nat.{ℕ, zero, suc, ◌≤◌, ◌<◌}
 use native.Mathlib.Decide.{ℕ_discrete}
 use borrow.Author.Tests.{ne_eqb}
 use lib.Dec.{T, lit≤, lit<, ltb, eqb, eqb→eq}
-use lib.ListN.{length}
+use lib.ListN.{length, get_or}
 use mir.Facts.{or_yes}
 use Rattle.array_sets.specs.declared.ArraySet.{ArraySet}
 use Rattle.array_sets.specs.declared.ArraySet.TheVariants.{F, G, ReducedModulo2, ReducedModuloQ}
@@ -16,6 +16,10 @@ use Rattle.refusals.specs.declared.Refusal.{Refusal}
 use Rattle.heads.specs.declared.kinds.Kind.{Kind}
 use Rattle.heads.specs.Kinds.{arrays_of, made_of_arrays, bundle_kind, known_kind, number_of_kind, KindOf}
 
+pub public_arrays : (kind : ℕ) → kind ≡ 1 → arrays_of kind ≡ ReducedModuloQ ∷ []
+unfolding arrays_of
+public_arrays kind e = ap arrays_of e
+
 pub private_arrays : (kind : ℕ) → kind ≡ 2 → arrays_of kind ≡ F ∷ ReducedModulo2 ∷ ReducedModuloQ ∷ G ∷ []
 unfolding arrays_of
 private_arrays kind e = ap arrays_of e
@@ -23,6 +27,10 @@ private_arrays kind e = ap arrays_of e
 pub sealed_arrays : (kind : ℕ) → kind ≡ 3 → arrays_of kind ≡ ReducedModuloQ ∷ []
 unfolding arrays_of
 sealed_arrays kind e = ap arrays_of e
+
+pub short_arrays : (kind : ℕ) → kind ≡ 5 → arrays_of kind ≡ ReducedModuloQ ∷ []
+unfolding arrays_of
+short_arrays kind e = ap arrays_of e
 
 -- what is left after the tests for kinds 1, 2 and 3
 abbrev from_5 : ℕ → List ArraySet
@@ -55,6 +63,24 @@ by_kind P p1 p2 p3 p5 none kind = go (ℕ_discrete kind 1) (ℕ_discrete kind 2)
     go (no e) (no d) (yes f) g = at 3 p3 f
     go (no e) (no d) (no f) (yes g) = at 5 p5 g
     go (no e) (no d) (no f) (no g) = subst (P kind) (sym (no_arrays kind e d f g)) (none kind)
+
+-- every kind but the second holds remainders only
+pub remainders_only : (kind k : ℕ) → kind ≢ 2 → get_or (arrays_of kind) k ReducedModuloQ ≡ ReducedModuloQ
+unfolding arrays_of
+remainders_only kind k =
+    by_kind (λ n l. n ≢ 2 → get_or l k ReducedModuloQ ≡ ReducedModuloQ) (λ _. single k) (λ n. absurd (n refl)) (λ _. single k) (λ _. single k) (λ n _. refl) kind
+  where
+    single : (k : ℕ) → get_or (ReducedModuloQ ∷ []) k ReducedModuloQ ≡ ReducedModuloQ
+    single zero = refl
+    single (suc k) = refl
+
+-- the third array of kind 2 is of remainders, and there is no fifth
+pub private_remainders : (k : ℕ) → k ≢ 0 → k ≢ 1 → k ≢ 3 → get_or (F ∷ ReducedModulo2 ∷ ReducedModuloQ ∷ G ∷ []) k ReducedModuloQ ≡ ReducedModuloQ
+private_remainders zero e0 e1 e3 = absurd (e0 refl)
+private_remainders (suc zero) e0 e1 e3 = absurd (e1 refl)
+private_remainders (suc (suc zero)) e0 e1 e3 = refl
+private_remainders (suc (suc (suc zero))) e0 e1 e3 = absurd (e3 refl)
+private_remainders (suc (suc (suc (suc k)))) e0 e1 e3 = refl
 
 -- a file holds at most four arrays
 pub at_most_four : (kind : ℕ) → length (arrays_of kind) ≤ 4

@@ -18,7 +18,7 @@ use Rattle.refusals.specs.Outcomes.{refused}
 use Rattle.refusals.proofs.Checks.{refused_by}
 use Rattle.heads.specs.declared.kinds.Kind.{Kind}
 use Rattle.heads.specs.Kinds.{number_of_kind}
-use Rattle.head_writing.proofs.WritingChecks.{from_parameters, kind_passed, writing_passed}
+use Rattle.head_writing.proofs.WritingChecks.{from_parameters, kind_passed, room_passed}
 use Rattle.head_writing.proofs.write_head.Goals as goal
 use Rattle.head_writing.proofs.write_head.Goals.{Start}
 
@@ -35,7 +35,7 @@ returns-in_err-kind c = gives_same c.args.file.now (refused_by 19 _ _ (ap not c.
 pub write_bytes-requires : goal.write_bytes-requires
 write_bytes-requires c =
     let s = (goal.at.write_bytes-requires c).Start in
-    writing_passed (set_of c.args.p) (length c.args.file.now) (done_parts (checks s) c.args.p c.in_ok-p.p.parameters (sym c.in_ok-p.ensures)).0
+    room_passed (set_of c.args.p) (length c.args.file.now) (done_parts (checks s) c.args.p c.in_ok-p.p.parameters (sym c.in_ok-p.ensures)).0
 
 pub returns : goal.returns
 returns c =
