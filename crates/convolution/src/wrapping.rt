@@ -36,6 +36,16 @@ fn reduce_wrapped(w: &[i64], n: usize, c: i32, d: i32, out: &mut [i32])
     }
 }
 
+// Copies x to out by a loop: of `copy_from_slice` between two lent arrays the compiler makes a memmove, which nothing else in the library needs.
+fn copy_numbers(x: &[i32], out: &mut [i32])
+    requires { length x.now ≡ length out.old }
+    ensures { out.new ≡ x.now }
+{
+    for (k, number) in out.iter_mut().enumerate() {
+        *number = x[k];
+    }
+}
+
 // x × y reduced modulo q, to x, with room for the product, which is formed since the operands are small and the room is large enough.
 fn convolve_in(x: &mut [i32], y: &mut [i32], n: usize, c: i32, d: i32, w: &mut [i64])
     requires { Convolvable n (value c d) x.old y.old x.old × Factors n x.old y.old w.old }
@@ -88,7 +98,7 @@ fn convolve_with_copies<const LENGTH: usize>(
 {
     let mut copy = [0i32; LENGTH];
     copy[..y.len()].copy_from_slice(y);
-    out.copy_from_slice(x);
+    copy_numbers(x, out);
     convolve_copies(out, &mut copy[..y.len()], n, c, d);
 }
 
