@@ -57,11 +57,15 @@ pub fn next_entry(bytes: &[u8], at: &mut usize, stop: &mut u32, part: &mut usize
         (stored_at (head_of bytes.now).N bytes.now at.old).stop stop.old }
     ensures part_after { part.new ≡ cond (stands_at bytes.now at.old) (at.old + stop_length) part.old }
 {
-    if !stands_at(bytes, *at) {
+    // All is read before the first output is written: behind that the compiler would have it read again.
+    let from = *at;
+    if !stands_at(bytes, from) {
         return false;
     }
-    *stop = stop_in(bytes, *at);
-    *part = *at + STOP_BYTES;
-    *at = next_at(bytes, *at);
+    let number = stop_in(bytes, from);
+    let next = next_at(bytes, from);
+    *at = next;
+    *stop = number;
+    *part = from + STOP_BYTES;
     true
 }

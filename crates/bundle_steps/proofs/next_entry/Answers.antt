@@ -25,4 +25,4 @@ pub returns : goal.returns
 unfolding stored_at stop_in
 returns c =
     let standing : stands_at c.args.bytes.now c.args.at.now ≡ true = sym c.stands_at.ensures ∙ c.if-not-stands_at.false in
-    record { value = (sym standing, c.next_at.ensures); stop_after = simp standing c.stop_in.ensures.0; part_after = simp standing }
+    record { value = (sym standing, c.next_at-next.ensures); stop_after = simp standing c.stop_in-number.ensures.0; part_after = simp standing }
