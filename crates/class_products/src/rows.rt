@@ -36,7 +36,8 @@ fn lay_row(classes: &[u8], c: usize, start: usize, rows: &mut [u8])
 {
     let table = products();
     for (k, class) in classes.iter().enumerate() {
-        rows[start + k] = table[c][usize::from(*class)];
+        let column = usize::from(*class);
+        rows[start + k] = table[c][column];
     }
 }
 

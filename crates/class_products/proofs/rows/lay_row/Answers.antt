@@ -15,4 +15,4 @@ entry table i j e = ap (λ (t : List (List ℕ)). get_or (get_or t i []) j 0) e
 
 pub loop-k-preserved : goal.loop-k-preserved
 loop-k-preserved c =
-    laid_next c.loop-k.invariant (omega (arith, c.requires.classes_bound, c.loop-k.invariant.long)) (entry c.products-table.result c.args.c c.from.result c.products-table.ensures ∙ ap (product c.args.c) c.from.ensures)
+    laid_next c.loop-k.invariant (omega (arith, c.requires.classes_bound, c.loop-k.invariant.long)) (entry c.products-table.result c.args.c c.from-column.result c.products-table.ensures ∙ ap (product c.args.c) c.from-column.ensures)
