@@ -1,4 +1,4 @@
--- What the steps of a product by halving do to their numbers. Only contracts of those steps speak of it.
+-- What the steps of a product by halving do to their numbers. Only contracts and proofs of those steps speak of it.
 use Rattle.std.specs.Prelude.{◌≡◌, ◌≢◌, cond, List, ℕ, ◌+◌, ◌-◌, ◌*◌, ◌≤◌, ◌<◌, ltb, ℤ, pos, ◌+ℤ◌, ◌-ℤ◌, length, get_or}
 use Rattle.eisenstein.specs.Values.{𝟘, ◌+ω◌, ◌-ω◌}
 use Rattle.polynomials.specs.Polynomials.{Polynomial}
