@@ -36,7 +36,7 @@ fn reduce_wrapped(w: &[i64], n: usize, c: i32, d: i32, out: &mut [i32])
     }
 }
 
-// Copies x to out by a loop: of `copy_from_slice` between two lent arrays the compiler makes a memmove, which nothing else in the library needs.
+// Copies x to out by a loop: of `copy_from_slice` between two lent arrays the compiler makes a memmove, which nothing else that C links needs.
 fn copy_numbers(x: &[i32], out: &mut [i32])
     requires { length x.now ≡ length out.old }
     ensures { out.new ≡ x.now }
